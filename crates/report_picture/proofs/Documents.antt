@@ -1,12 +1,14 @@
 -- The text of a picture is a well-formed document.
-use Rattle.std.proofs.Common.{◌≡◌, ℕ, List, [], ◌∷◌, ◌++◌, refl, sym, subst, append_assoc, append-nil, map, ap, ◌∙◌}
+use Rattle.std.proofs.Common.{◌≡◌, ℕ, List, Option, None, Some, [], ◌∷◌, ◌++◌, refl, sym, subst, append_assoc, append-nil, map, ap, ◌∙◌}
 use lib.Chars.{codes}
 use Rattle.report_picture.specs.declared.picture.Mark.{Mark}
 use Rattle.report_picture.specs.declared.picture.Mark.TheVariants.{Box, Path, Text}
 use Rattle.report_picture.specs.declared.picture.Column.{Column}
 use Rattle.report_picture.specs.declared.picture.Drawn.{Drawn}
+use Rattle.report_picture.specs.declared.picture.Spot.{Spot}
+use Rattle.report_picture.specs.declared.picture.Lost.{Lost}
 use Rattle.report_picture.specs.declared.picture.Picture.{Picture}
-use Rattle.report_picture.specs.Elements.{Node, attributes_text, document_attributes, escaped, head_nodes, line_node, mark_node, node_text, nodes_text, picture_nodes, style_node, svg_text, title_text}
+use Rattle.report_picture.specs.Elements.{Node, attributes_text, document_attributes, escaped, fate_nodes, fate_nodes_of, head_nodes, line_node, mark_node, node_text, nodes_text, picture_nodes, style_node, svg_text, title_text}
 use Rattle.report_picture.specs.WellFormed.{IsName, Attributes, no_more, attribute, Content, no_content, words_then, element_then, IsDocument}
 
 -- ---- names
@@ -36,24 +38,32 @@ named_marks : (marks : List Mark) → AllNamed (map mark_node marks)
 named_marks [] = tt
 named_marks (m ∷ marks) = (named_mark m, named_marks marks)
 
-named_lines : (columns : List Column) (lines : List Drawn) → AllNamed (map (line_node columns) lines)
-named_lines columns [] = tt
-named_lines columns (d ∷ lines) = (record { by_name = refl; all = (refl, (refl, (refl, tt))) }, named_lines columns lines)
+named_lines : (p : Picture) (lines : List Drawn) → AllNamed (map (line_node p) lines)
+named_lines p [] = tt
+named_lines p (d ∷ lines) = (record { by_name = refl; all = (refl, (refl, (refl, tt))) }, named_lines p lines)
 
-named_heads : (columns : List Column) → AllNamed (head_nodes columns)
-named_heads [] = tt
-named_heads (c ∷ columns) = (
+named_heads : (top : ℕ) (columns : List Column) → AllNamed (head_nodes top columns)
+named_heads top [] = tt
+named_heads top (c ∷ columns) = (
   record { by_name = refl; all = (refl, (refl, (refl, tt))) },
-  (record { by_name = refl; all = (refl, (refl, (refl, tt))) }, named_heads columns),
+  (record { by_name = refl; all = (refl, (refl, (refl, tt))) }, named_heads top columns),
 )
+
+named_fate : (at : Option Spot) (line : List ℕ) → AllNamed (fate_nodes_of at line)
+named_fate None line = tt
+named_fate (Some spot) line = (record { by_name = refl; all = (refl, (refl, (refl, tt))) }, tt)
+
+named_fates : (lost : List Lost) → AllNamed (fate_nodes lost)
+named_fates [] = tt
+named_fates (one ∷ lost) =
+    named-append (fate_nodes_of one.at one.line.text.now) (fate_nodes lost) (named_fate one.at one.line.text.now) (named_fates lost)
 
 named : (p : Picture) → AllNamed (picture_nodes p)
 named p = (
   record { by_name = refl; all = tt },
-  named-append (map mark_node p.marks.items) (head_nodes p.columns.items ++ map (line_node p.columns.items) p.lines.items)
-      (named_marks p.marks.items)
-      (named-append (head_nodes p.columns.items) (map (line_node p.columns.items) p.lines.items) (named_heads p.columns.items)
-      (named_lines p.columns.items p.lines.items)),
+  named-append (map mark_node p.marks.items) _ (named_marks p.marks.items)
+      (named-append (fate_nodes p.lost.items) _ (named_fates p.lost.items)
+      (named-append (head_nodes p.top p.columns.items) _ (named_heads p.top p.columns.items) (named_lines p p.lines.items))),
 )
 
 -- ---- elements
@@ -110,53 +120,55 @@ is_document p = record {
 regroup_two : (a b c : List ℕ) → a ++ (b ++ c) ≡ a ++ b ++ c
 regroup_two a b c = simp append_assoc
 
-nodes_append : (xs ys : List Node) → nodes_text (xs ++ ys) ≡ nodes_text xs ++ nodes_text ys
+pub nodes_append : (xs ys : List Node) → nodes_text (xs ++ ys) ≡ nodes_text xs ++ nodes_text ys
 nodes_append [] ys = refl
 nodes_append (x ∷ xs) ys = ap (λ t. node_text x ++ t) (nodes_append xs ys) ∙ regroup_two (node_text x) (nodes_text xs) (nodes_text ys)
 
-regroup_parts : (h s m t l e : List ℕ) → h ++ s ++ m ++ t ++ l ++ e ≡ h ++ (s ++ (m ++ (t ++ l))) ++ e
-regroup_parts h s m t l e = simp append_assoc
+-- the texts of the marks, the fates, the heads and the lines of a picture
+abbrev marks_text : Picture → List ℕ
+marks_text p = nodes_text (map mark_node p.marks.items)
 
--- what six steps wrote, if n has the parts m, t and l
-joined : (h s m t l n e o₁ o₂ o₃ o₄ o₅ o₆ : List ℕ) → o₁ ≡ h → o₂ ≡ o₁ ++ s → o₃ ≡ o₂ ++ m → o₄ ≡ o₃ ++ t → o₅ ≡ o₄ ++ l → o₆ ≡ o₅ ++ e
-    → n ≡ m ++ (t ++ l) → o₆ ≡ h ++ (s ++ n) ++ e
-joined h s m t l n e o₁ o₂ o₃ o₄ o₅ o₆ e₁ e₂ e₃ e₄ e₅ e₆ en =
-    e₆ ∙ ap (λ x. x ++ e) (e₅ ∙ ap (λ x. x ++ l) (e₄ ∙ ap (λ x. x ++ t) (e₃ ∙ ap (λ x. x ++ m) (e₂ ∙ ap (λ x. x ++ s) e₁))))
-    ∙ regroup_parts h s m t l e ∙ ap (λ x. h ++ (s ++ x) ++ e) (sym en)
+abbrev fates_text : Picture → List ℕ
+fates_text p = nodes_text (fate_nodes p.lost.items)
+
+abbrev heads_text : Picture → List ℕ
+heads_text p = nodes_text (head_nodes p.top p.columns.items)
+
+abbrev texts_of_lines : Picture → List ℕ
+texts_of_lines p = nodes_text (map (line_node p) p.lines.items)
+
+-- what stands in the document, in its parts
+parts_append : (p : Picture)
+    → nodes_text (picture_nodes p) ≡ node_text style_node ++ (marks_text p ++ (fates_text p ++ (heads_text p ++ texts_of_lines p)))
+parts_append p =
+    ap (λ t. node_text style_node ++ t)
+    (nodes_append (map mark_node p.marks.items) _
+    ∙ ap (λ t. marks_text p ++ t)
+    (nodes_append (fate_nodes p.lost.items) _
+    ∙ ap (λ t. fates_text p ++ t) (nodes_append (head_nodes p.top p.columns.items) (map (line_node p) p.lines.items))))
+
+regroup_parts : (h s m f t l e : List ℕ) → h ++ s ++ m ++ f ++ t ++ l ++ e ≡ h ++ (s ++ (m ++ (f ++ (t ++ l)))) ++ e
+regroup_parts h s m f t l e = simp append_assoc
 
 -- the opening of the document
 abbrev opening : Picture → List ℕ
 opening p = codes "<svg" ++ attributes_text (document_attributes p.width p.height) ++ codes ">\n"
 
--- the texts of the marks, the heads and the lines of a picture
-abbrev marks_text : Picture → List ℕ
-marks_text p = nodes_text (map mark_node p.marks.items)
-
-abbrev heads_text : Picture → List ℕ
-heads_text p = nodes_text (head_nodes p.columns.items)
-
-abbrev texts_of_lines : Picture → List ℕ
-texts_of_lines p = nodes_text (map (line_node p.columns.items) p.lines.items)
-
-parts_append : (p : Picture)
-    → nodes_text (map mark_node p.marks.items ++ (head_nodes p.columns.items ++ map (line_node p.columns.items) p.lines.items))
-    ≡ marks_text p ++ (heads_text p ++ texts_of_lines p)
-parts_append p =
-    nodes_append (map mark_node p.marks.items) (head_nodes p.columns.items ++ map (line_node p.columns.items) p.lines.items)
-    ∙ ap (λ t. marks_text p ++ t) (nodes_append (head_nodes p.columns.items) (map (line_node p.columns.items) p.lines.items))
-
--- the whole text, by what each step wrote of the columns, the marks and the lines of the picture
-pub whole : (p : Picture) (columns : List Column) (marks : List Mark) (lines : List Drawn) (o₀ o₁ o₂ o₃ o₄ o₅ o₆ : List ℕ)
-    → columns ≡ p.columns.items → marks ≡ p.marks.items → lines ≡ p.lines.items → o₀ ≡ []
+-- the whole text, by what each step wrote of the marks, the fates, the columns and the lines of the picture
+pub whole : (p : Picture) (marks : List Mark) (lost : List Lost) (columns : List Column) (lines : List Drawn)
+    (o₀ o₁ o₂ o₃ o₄ o₅ o₆ o₇ : List ℕ) → marks ≡ p.marks.items → lost ≡ p.lost.items → columns ≡ p.columns.items
+    → lines ≡ p.lines.items → o₀ ≡ []
     → o₁ ≡ o₀ ++ codes "<svg" ++ attributes_text (document_attributes p.width p.height) ++ codes ">\n"
-    → o₂ ≡ o₁ ++ node_text style_node → o₃ ≡ o₂ ++ nodes_text (map mark_node marks) → o₄ ≡ o₃ ++ nodes_text (head_nodes columns)
-    → o₅ ≡ o₄ ++ nodes_text (map (line_node columns) lines) → o₆ ≡ o₅ ++ codes "</svg>\n" → o₆ ≡ svg_text p
-whole p columns marks lines o₀ o₁ o₂ o₃ o₄ o₅ o₆ ec em el e₀ e₁ e₂ e₃ e₄ e₅ e₆ =
-    joined (opening p) (node_text style_node) (marks_text p) (heads_text p) (texts_of_lines p)
-    (nodes_text (map mark_node p.marks.items ++ (head_nodes p.columns.items ++ map (line_node p.columns.items) p.lines.items)))
-    (codes "</svg>\n") o₁ o₂ o₃ o₄ o₅ o₆
-    (e₁ ∙ ap (λ o. o ++ codes "<svg" ++ attributes_text (document_attributes p.width p.height) ++ codes ">\n") e₀) e₂
-    (e₃ ∙ ap (λ ms. o₂ ++ nodes_text (map mark_node ms)) em)
-    (e₄ ∙ ap (λ cs. o₃ ++ nodes_text (head_nodes cs)) ec)
-    (e₅ ∙ ap (λ cs. o₄ ++ nodes_text (map (line_node cs) lines)) ec ∙ ap (λ ls. o₄ ++ nodes_text (map (line_node p.columns.items) ls)) el)
-    e₆ (parts_append p)
+    → o₂ ≡ o₁ ++ node_text style_node → o₃ ≡ o₂ ++ nodes_text (map mark_node marks) → o₄ ≡ o₃ ++ nodes_text (fate_nodes lost)
+    → o₅ ≡ o₄ ++ nodes_text (head_nodes p.top columns) → o₆ ≡ o₅ ++ nodes_text (map (line_node p) lines)
+    → o₇ ≡ o₆ ++ codes "</svg>\n" → o₇ ≡ svg_text p
+whole p marks lost columns lines o₀ o₁ o₂ o₃ o₄ o₅ o₆ o₇ em ef ec el e₀ e₁ e₂ e₃ e₄ e₅ e₆ e₇ =
+    e₇ ∙ ap (λ o. o ++ codes "</svg>\n")
+    (e₆ ∙ ap (λ ls. o₅ ++ nodes_text (map (line_node p) ls)) el ∙ ap (λ o. o ++ texts_of_lines p)
+    (e₅ ∙ ap (λ cs. o₄ ++ nodes_text (head_nodes p.top cs)) ec ∙ ap (λ o. o ++ heads_text p)
+    (e₄ ∙ ap (λ fs. o₃ ++ nodes_text (fate_nodes fs)) ef ∙ ap (λ o. o ++ fates_text p)
+    (e₃ ∙ ap (λ ms. o₂ ++ nodes_text (map mark_node ms)) em ∙ ap (λ o. o ++ marks_text p)
+    (e₂ ∙ ap (λ o. o ++ node_text style_node)
+    (e₁ ∙ ap (λ o. o ++ codes "<svg" ++ attributes_text (document_attributes p.width p.height) ++ codes ">\n") e₀))))))
+    ∙ regroup_parts (opening p) (node_text style_node) (marks_text p) (fates_text p) (heads_text p) (texts_of_lines p) (codes "</svg>\n")
+    ∙ ap (λ n. opening p ++ n ++ codes "</svg>\n") (sym (parts_append p))

@@ -1,4 +1,7 @@
 mod Beside
 mod Documents
+mod Fields
+mod JsonTexts
 mod Labels
 mod Placing
+mod Shows

@@ -1,10 +1,13 @@
 -- Lines that stand in columns and in order, with one line more.
-use Rattle.std.proofs.Common.{◌≡◌, ◌<◌, ◌-◌, ◌+◌, ℕ, suc, List, [], ◌∷◌, ◌++◌, length, IfSome, Some, Bool, true, filter, ap, sym, subst, arith, slice_get}
+use Rattle.std.proofs.Common.{◌≡◌, ◌<◌, ◌≤◌, ◌-◌, ◌+◌, ℕ, suc, List, [], ◌∷◌, ◌++◌, length, IfSome, Some, Bool, true, filter, ap, sym, subst, arith, slice_get, get_or, take, drop, append_assoc, ◌∙◌}
+use Rattle.std.proofs.lemmas.List.{take_all}
 use Rattle.std.proofs.lemmas.List.Elements.{filter-append}
 use Rattle.report_picture.specs.declared.picture.Drawn.{Drawn}
 use Rattle.report_picture.specs.Order.{StandFrom}
 use Rattle.report_picture.specs.Pictures.{EndsAbove, StandInColumns, StandInOrder, StandsBelow, column_of, is_target}
+use Rattle.report_reader.specs.declared.line.Line.{Line}
 use Rattle.report_reader.specs.Reports.{Line as Told}
+use Rattle.report_reader.specs.Reading.{told, told_lines}
 
 pub columns_more : (tags : List ℕ) (ds : List Drawn) (d : Drawn) → StandInColumns tags ds → column_of tags d.line.said ≡ Some d.column
     → is_target tags d.target ≡ true → StandInColumns tags (ds ++ d ∷ [])
@@ -32,6 +35,9 @@ last_above column row (d ∷ (e ∷ ds)) h =
 pub filter_more : (p : Told → Bool) (x : Told) (xs : List Told) → filter p (x ∷ xs) ≡ filter p (x ∷ []) ++ filter p xs
 filter_more p x xs = filter-append p (x ∷ []) xs
 
+pub part_more : (p : Drawn → Bool) (x : Drawn) (xs : List Drawn) → filter p (x ∷ xs) ≡ filter p (x ∷ []) ++ filter p xs
+part_more p x xs = filter-append p (x ∷ []) xs
+
 rows_from : (n : ℕ) (ds : List Drawn) (d : Drawn) → StandFrom n ds → d.row ≡ n + length ds → StandFrom n (ds ++ d ∷ [])
 rows_from n [] d stand is = (omega (arith, is), tt)
 rows_from n (x ∷ ds) d stand is = (stand.0, rows_from (n + 1) ds d stand.1 (omega (arith, is)))
@@ -49,3 +55,23 @@ order_from n (d ∷ ds) stand = (below_from n d ds stand.0 stand.1, order_from (
 
 pub in_order_from : (ds : List Drawn) → StandFrom 0 ds → StandInOrder ds
 in_order_from ds stand = order_from 0 ds stand
+
+-- the first of a list, and the others
+split_off : {A : Type 0} (xs : List A) (d : A) → 1 ≤ length xs → xs ≡ get_or xs 0 d ∷ take (length xs - 1) (drop 1 xs)
+split_off [] d some = absurd (omega arith)
+split_off (x ∷ xs) d some = ap (λ l. x ∷ l) (sym (take_all (length (x ∷ xs) - 1) xs (omega arith)))
+
+-- what is kept of all lines, once one line more was gone through
+kept_more : (p : Told → Bool) (kept kept' : List Told) (x : Told) (xs all : List Told) → kept' ≡ kept ++ filter p (x ∷ [])
+    → kept ++ filter p (x ∷ xs) ≡ all → kept' ++ filter p xs ≡ all
+kept_more p kept kept' x xs all more so_far =
+    ap (λ l. l ++ filter p xs) more
+    ∙ append_assoc kept (filter p (x ∷ [])) (filter p xs)
+    ∙ ap (λ l. kept ++ l) (sym (filter_more p x xs)) ∙ so_far
+
+pub kept_rest : (p : Told → Bool) (kept kept' : List Told) (rest : List Line) (d : Line) (all : List Told) → 1 ≤ length rest
+    → kept' ≡ kept ++ filter p (told (get_or rest 0 d) ∷ []) → kept ++ filter p (told_lines rest) ≡ all
+    → kept' ++ filter p (told_lines (take (length rest - 1) (drop 1 rest))) ≡ all
+kept_rest p kept kept' rest d all some more so_far =
+    kept_more p kept kept' (told (get_or rest 0 d)) (told_lines (take (length rest - 1) (drop 1 rest))) all more
+    (ap (λ r. kept ++ filter p (told_lines r)) (sym (split_off rest d some)) ∙ so_far)

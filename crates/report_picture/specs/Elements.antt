@@ -1,20 +1,26 @@
 -- A picture as a text: the elements of an SVG document.
-use Rattle.std.specs.Prelude.{ℕ, ◌+◌, ◌*◌, List, [], ◌∷◌, ◌++◌, ◌==◌, Option, Some, None, if◌then◌else◌, map, slice_get}
+use Rattle.std.specs.Prelude.{ℕ, ◌+◌, ◌*◌, ◌-◌, List, [], ◌∷◌, ◌++◌, ◌==◌, Option, Some, None, if◌then◌else◌, map, slice_get}
 use Rattle.std.specs.List.{join_with_byte}
 use denote.Ref.{Bor}
 use Rattle.std.specs.Fmt.{decimal}
 use lib.Chars.{codes}
 use Rattle.report_reader.specs.Words.{words_of}
 use Rattle.report_picture.specs.declared.looks.Look.{Look}
-use Rattle.report_picture.specs.declared.looks.Look.TheVariants.{Paper, Life, Tick, Wait, Brings, BringsEnd, Cancels, CancelsEnd, Lost, Foot, Label}
+use Rattle.report_picture.specs.declared.looks.Look.TheVariants.{Paper, Life, Past, Tick, Wait, Brings, Joins, Cancels, Lost, Foot, Hangs, Label}
+use Rattle.report_picture.specs.declared.looks.Shade.{Shade}
+use Rattle.report_picture.specs.declared.looks.Shade.TheVariants as shades
+use Rattle.report_picture.specs.declared.looks.State.{State}
 use Rattle.report_picture.specs.declared.looks.State.TheVariants.{New, Active, Completing, Cancelling, Completed, Cancelled, Failed}
 use Rattle.report_picture.specs.declared.picture.Way.{Way}
-use Rattle.report_picture.specs.declared.picture.Way.TheVariants.{Down, Bent, Point, Cross}
+use Rattle.report_picture.specs.declared.picture.Way.TheVariants.{Down, Bent, Cross}
 use Rattle.report_picture.specs.declared.picture.Mark.{Mark}
 use Rattle.report_picture.specs.declared.picture.Mark.TheVariants.{Box, Path, Text}
 use Rattle.report_picture.specs.declared.picture.Column.{Column}
 use Rattle.report_picture.specs.declared.picture.Drawn.{Drawn}
+use Rattle.report_picture.specs.declared.picture.Spot.{Spot}
+use Rattle.report_picture.specs.declared.picture.Lost.{Lost as Fate}
 use Rattle.report_picture.specs.declared.picture.Picture.{Picture}
+use Rattle.report_picture.specs.LineWords.{word}
 
 -- ---- texts
 
@@ -62,33 +68,48 @@ node_text node = codes "<" ++ node.name ++ attributes_text node.attributes ++ re
 
 -- ---- marks
 
+-- a state, by a name of the style
+abbrev pub state_word : State → List ℕ
+state_word New = codes "new"
+state_word Active = codes "active"
+state_word Completing = codes "completing"
+state_word Cancelling = codes "cancelling"
+state_word Completed = codes "completed"
+state_word Cancelled = codes "cancelled"
+state_word Failed = codes "failed"
+
+-- the colour and the dash of a channel, by a name of the style
+abbrev pub shade_word : Shade → List ℕ
+shade_word shades.Blue = codes "a"
+shade_word shades.Green = codes "b"
+shade_word shades.Purple = codes "c"
+shade_word shades.Black = codes "d"
+shade_word shades.DashedBlue = codes "e"
+shade_word shades.DashedGreen = codes "f"
+shade_word shades.DashedPurple = codes "g"
+shade_word shades.DashedBlack = codes "h"
+
 -- how a mark looks, by a name of the style
 abbrev pub look_word : Look → List ℕ
 look_word Paper = codes "paper"
-look_word (Life New) = codes "new"
-look_word (Life Active) = codes "active"
-look_word (Life Completing) = codes "completing"
-look_word (Life Cancelling) = codes "cancelling"
-look_word (Life Completed) = codes "completed"
-look_word (Life Cancelled) = codes "cancelled"
-look_word (Life Failed) = codes "failed"
+look_word (Life state) = state_word state
+look_word Past = codes "past"
 look_word Tick = codes "tick"
 look_word Wait = codes "wait"
-look_word Brings = codes "brings"
-look_word BringsEnd = codes "bringsend"
+look_word (Brings shade) = shade_word shade
+look_word Joins = codes "joins"
 look_word Cancels = codes "cancels"
-look_word CancelsEnd = codes "cancelsend"
 look_word Lost = codes "lost"
 look_word Foot = codes "foot"
+look_word Hangs = codes "hangs"
 look_word Label = codes "label"
 
 -- the data of a path
 abbrev pub way_text : Way → List ℕ
 way_text (Down x from to) = codes "M" ++ decimal x ++ codes " " ++ decimal from ++ codes "V" ++ decimal to
-way_text (Bent x y level lane to_y to_x) =
-    codes "M" ++ decimal x ++ codes " " ++ decimal y ++ codes "V" ++ decimal level ++ codes "H" ++ decimal lane
-    ++ codes "V" ++ decimal to_y ++ codes "H" ++ decimal to_x
-way_text (Point x y) = codes "M" ++ decimal x ++ codes " " ++ decimal y ++ codes "l-8-4v8z"
+way_text (Bent x level lane to_y to_x) =
+    codes "M" ++ decimal x ++ codes " " ++ decimal level ++ codes "H" ++ decimal lane ++ codes "V" ++ decimal to_y ++ codes "H"
+    ++ decimal to_x ++ codes "l-6-3m6 3l-6 3"
 way_text (Cross x y) = codes "M" ++ decimal x ++ codes " " ++ decimal y ++ codes "m-4-4l8 8m-8 0l8-8"
 
 abbrev pub text_node : ℕ → ℕ → List ℕ → List ℕ → List ℕ → Node
@@ -125,9 +146,9 @@ mark_node (Text x y look text title) = text_node x y (look_word look) text.items
 
 -- ---- lines
 
--- where the middle of a row is from the top
-abbrev pub row_y : ℕ → ℕ
-row_y row = 120 + 34 * row
+-- where the middle of a row is from the top, by where the heads begin
+abbrev pub row_y : ℕ → ℕ → ℕ
+row_y top row = top + 40 + 17 * row
 
 -- what a slice points to, if there is one
 abbrev pub rest_of : Option (Bor (List ℕ)) → List ℕ
@@ -151,10 +172,34 @@ left_or (Some column) = column.text
 abbrev pub left_of : List Column → ℕ → ℕ
 left_of columns column = left_or (slice_get columns column)
 
--- the element of a line of a book: it stands beside the bar of its column, and its title is the whole line
-abbrev pub line_node : List Column → Drawn → Node
-line_node columns drawn =
-    text_node (left_of columns drawn.column) (row_y drawn.row + 4) (codes "line") (label_of drawn.line.text.now) drawn.line.text.now
+-- the element of a line of a book: it is next to the bar of its column, in its row below the first one drawn, and its title is the whole
+-- line
+abbrev pub line_node : Picture → Drawn → Node
+line_node picture drawn =
+    text_node (left_of picture.columns.items drawn.column) (row_y picture.top (drawn.row - picture.first) + 4) (codes "line")
+    (label_of drawn.line.text.now) drawn.line.text.now
+
+-- ---- fates
+
+-- what became of an element, by the line that tells it
+abbrev pub fate_of : List ℕ → List ℕ
+fate_of line = word 4 line
+
+-- an element that was not received: its channel, its place, its value and its fate, by the line that tells it
+abbrev pub fate_label : List ℕ → List ℕ
+fate_label line = word 1 line ++ codes "." ++ word 2 line ++ codes ": " ++ word 3 line ++ codes " " ++ fate_of line
+
+abbrev pub fate_node : Spot → List ℕ → Node
+fate_node spot line = text_node spot.x spot.y (codes "fate") (fate_label line) line
+
+-- the element that labels the end of an element that was not received, if the picture has that end
+abbrev pub fate_nodes_of : Option Spot → List ℕ → List Node
+fate_nodes_of None line = []
+fate_nodes_of (Some spot) line = fate_node spot line ∷ []
+
+abbrev pub fate_nodes : List Fate → List Node
+fate_nodes [] = []
+fate_nodes (lost ∷ more) = fate_nodes_of lost.at lost.line.text.now ++ fate_nodes more
 
 -- ---- columns
 
@@ -162,16 +207,16 @@ line_node columns drawn =
 abbrev pub head_node : ℕ → ℕ → List ℕ → Node
 head_node left y text = text_node left y (codes "head") text []
 
-abbrev pub coroutine_node : Column → Node
-coroutine_node column = head_node column.left 80 (codes "coroutine " ++ decimal column.tag)
+abbrev pub coroutine_node : ℕ → Column → Node
+coroutine_node top column = head_node column.left top (codes "coroutine " ++ decimal column.tag)
 
-abbrev pub job_node : Column → Node
-job_node column = head_node column.left 96 (codes "Job " ++ decimal column.tag)
+abbrev pub job_node : ℕ → Column → Node
+job_node top column = head_node column.left (top + 16) (codes "Job " ++ decimal column.tag)
 
 -- each column is headed by its coroutine, and the Job that this runs as
-abbrev pub head_nodes : List Column → List Node
-head_nodes [] = []
-head_nodes (column ∷ columns) = coroutine_node column ∷ (job_node column ∷ head_nodes columns)
+abbrev pub head_nodes : ℕ → List Column → List Node
+head_nodes top [] = []
+head_nodes top (column ∷ columns) = coroutine_node top column ∷ (job_node top column ∷ head_nodes top columns)
 
 -- ---- the picture
 
@@ -182,13 +227,14 @@ nodes_text (node ∷ nodes) = node_text node ++ nodes_text nodes
 -- how marks look
 abbrev pub style : List ℕ
 style =
-    codes "text{font:11px monospace}.line,.label{stroke:#fff;stroke-width:3px;paint-order:stroke}.label{fill:#444}"
-    ++ codes ".head,.foot{font-weight:bold}.paper{fill:#fff}.new{fill:#fff;stroke:#000}.active{fill:#56b4e9}.completing{fill:#0072b2}"
-    ++ codes ".cancelling{fill:#e69f00}.completed{fill:#009e73}.cancelled{fill:#cc79a7}.failed{fill:#000}"
-    ++ codes ".tick{fill:#000;stroke:#fff;stroke-width:0.5}"
-    ++ codes ".wait{fill:none;stroke:#000;stroke-width:10;stroke-dasharray:1.5 3.5}.brings{fill:none;stroke:#0072b2;stroke-width:1.5}"
-    ++ codes ".bringsend{fill:#0072b2}.cancels{fill:none;stroke:#d55e00;stroke-width:1.5;stroke-dasharray:5 3}"
-    ++ codes ".cancelsend{fill:#d55e00}.lost{fill:none;stroke:#000;stroke-width:2}"
+    codes "text{font:11px monospace}.line,.label,.fate{stroke:#fff;stroke-width:3px;paint-order:stroke}.label,.fate{fill:#444}"
+    ++ codes ".head,.foot,.hangs{font-weight:bold}.hangs{fill:#d55e00}.paper{fill:#fff}.new{fill:#fff;stroke:#000}.active{fill:#56b4e9}"
+    ++ codes ".completing{fill:#0072b2}.cancelling{fill:#e69f00}.completed{fill:#009e73}.cancelled{fill:#cc79a7}.failed{fill:#000}"
+    ++ codes ".past{fill:#999}.tick{fill:#000;stroke:#fff;stroke-width:0.5}"
+    ++ codes ".wait{fill:none;stroke:#000;stroke-width:10;stroke-dasharray:1.5 3.5}"
+    ++ codes ".a,.b,.c,.d,.e,.f,.g,.h,.cancels{fill:none;stroke-width:1.5}.a,.e{stroke:#0072b2}.b,.f{stroke:#009e73}.c,.g{stroke:#cc79a7}"
+    ++ codes ".d,.h{stroke:#000}.e,.f,.g,.h{stroke-dasharray:6 3}.cancels{stroke:#d55e00;stroke-dasharray:3 2}"
+    ++ codes ".joins{fill:none;stroke:#999;stroke-width:0.8}.lost{fill:none;stroke:#000;stroke-width:2}"
 
 abbrev pub style_node : Node
 style_node = record { name = codes "style"; attributes = []; title = []; text = style }
@@ -198,11 +244,12 @@ abbrev pub document_attributes : ℕ → ℕ → List (List ℕ × List ℕ)
 document_attributes width height =
     (codes "xmlns", codes "http://www.w3.org/2000/svg") ∷ ((codes "width", decimal width) ∷ ((codes "height", decimal height) ∷ []))
 
--- the elements of a picture: its marks, the heads of its columns, and its lines; no mark looks like a head or a line
+-- the elements of a picture: its marks, the ends of elements, the heads of its columns, and its lines; no mark looks like one of these
 abbrev pub picture_nodes : Picture → List Node
 picture_nodes picture =
     style_node ∷ (map mark_node picture.marks.items
-    ++ (head_nodes picture.columns.items ++ map (line_node picture.columns.items) picture.lines.items))
+    ++ (fate_nodes picture.lost.items
+    ++ (head_nodes picture.top picture.columns.items ++ map (line_node picture) picture.lines.items)))
 
 -- a picture as a text
 abbrev pub svg_text : Picture → List ℕ

@@ -1,24 +1,17 @@
--- In which order the lines of the books stand in a picture.
-use Rattle.std.specs.Prelude.{◌≡◌, ℕ, ◌+◌, List, [], ◌∷◌, get_or, Bool, true, false, ◌&&◌, ◌||◌, not, nat_lt, Option, Some, None, slice_get}
+-- In which order the lines of the books are drawn in a picture.
+use Rattle.std.specs.Prelude.{◌≡◌, ℕ, ◌+◌, List, [], ◌∷◌, Bool, true, false, ◌&&◌, ◌||◌, not, nat_lt, Option, Some, None, slice_get}
 use Rattle.std.specs.Str.{bytes_eq}
 use lib.Chars.{codes}
-use Rattle.report_reader.specs.Words.{words_of}
 use Rattle.report_reader.specs.Reports.{Line as Told}
 use Rattle.report_picture.specs.declared.picture.Drawn.{Drawn}
 use Rattle.report_picture.specs.declared.sources.Place.{Place}
 use Rattle.report_picture.specs.declared.sources.Place.TheVariants.{InPicture, InReport}
 use Rattle.report_picture.specs.declared.sources.Sources.{Sources}
-use Rattle.report_picture.specs.Pictures.{is_of}
+use Rattle.report_picture.specs.declared.columns.Wanted.{Wanted}
+use Rattle.report_picture.specs.LineWords.{tells, word}
+use Rattle.report_picture.specs.Pictures.{is_drawn}
 
--- ---- what a line says
-
--- the word of a line with this number, counted from 0; the first is the tag of its coroutine
-abbrev pub word : ℕ → List ℕ → List ℕ
-word n line = get_or (words_of line) n []
-
--- the second word of a line is this
-abbrev pub tells : List ℕ → List ℕ → Bool
-tells verb line = bytes_eq (word 1 line) verb
+-- ---- what two lines share
 
 -- a word of the one line is a word of the other
 abbrev pub agree : ℕ → List ℕ → ℕ → List ℕ → Bool
@@ -73,44 +66,45 @@ abbrev pub text_if : Bool → List ℕ → List ℕ
 text_if true text = text
 text_if false text = []
 
--- a line of the picture that stands above this row
+-- a line that is drawn above this row
 abbrev pub above_row : ℕ → Option Drawn → List ℕ
 above_row row None = []
 above_row row (Some drawn) = text_if (nat_lt drawn.row row) drawn.line.text.now
 
--- a line of the report whose coroutine has no column
-abbrev pub outside : List ℕ → Option Told → List ℕ
-outside tags None = []
-outside tags (Some line) = text_if (not (is_of tags line)) line.1
+-- a line of the report that is not drawn
+abbrev pub outside : Wanted → List ℕ → Option Told → List ℕ
+outside wanted tags None = []
+outside wanted tags (Some line) = text_if (not (is_drawn wanted tags line)) line.1
 
--- the line at a place, if it stands above this row or outside the picture; else an empty one, which brings nothing about
-abbrev pub line_above : List ℕ → List Told → List Drawn → ℕ → Place → List ℕ
-line_above tags lines drawn row (InPicture number) = above_row row (slice_get drawn number)
-line_above tags lines drawn row (InReport number) = outside tags (slice_get lines number)
+-- the line at a place, if it is drawn above this row or not drawn; else an empty one, which brings nothing about
+abbrev pub line_above : Wanted → List ℕ → List Told → List Drawn → ℕ → Place → List ℕ
+line_above wanted tags lines drawn row (InPicture number) = above_row row (slice_get drawn number)
+line_above wanted tags lines drawn row (InReport number) = outside wanted tags (slice_get lines number)
 
 abbrev pub text_or : Option Told → List ℕ
 text_or None = []
 text_or (Some line) = line.1
 
--- what this line presupposes stands above it or outside the picture: the `attach` of its coroutine, what brought the element that it gets,
--- what resolved the wait that it settles, and the `cancel` that it saw
-abbrev pub stands_below : List ℕ → List Told → List Drawn → Drawn → Sources → Bool
-stands_below tags lines drawn line sources =
-    attaches (line_above tags lines drawn line.row sources.attach) line.line.text.now
-    && (brings (line_above tags lines drawn line.row sources.bring) line.line.text.now
-    && (resolves (text_or (slice_get lines sources.placing)) (line_above tags lines drawn line.row sources.resolve) line.line.text.now
-    && cancels (line_above tags lines drawn line.row sources.cancel) line.line.text.now))
+-- what this line presupposes stands above it or is not drawn: the `attach` of its coroutine, what brought the element that it gets, what
+-- resolved the wait that it settles, and the `cancel` that it saw
+abbrev pub stands_below : Wanted → List ℕ → List Told → List Drawn → Drawn → Sources → Bool
+stands_below wanted tags lines drawn line sources =
+    attaches (line_above wanted tags lines drawn line.row sources.attach) line.line.text.now
+    && (brings (line_above wanted tags lines drawn line.row sources.bring) line.line.text.now
+    && (resolves (text_or (slice_get lines sources.placing)) (line_above wanted tags lines drawn line.row sources.resolve)
+    line.line.text.now
+    && cancels (line_above wanted tags lines drawn line.row sources.cancel) line.line.text.now))
 
 -- the same of each of these lines
-abbrev pub all_stand_below : List ℕ → List Told → List Drawn → List Drawn → List Sources → Bool
-all_stand_below tags lines drawn [] sources = true
-all_stand_below tags lines drawn (line ∷ rest) [] = false
-all_stand_below tags lines drawn (line ∷ rest) (s ∷ sources) =
-    stands_below tags lines drawn line s && all_stand_below tags lines drawn rest sources
+abbrev pub all_stand_below : Wanted → List ℕ → List Told → List Drawn → List Drawn → List Sources → Bool
+all_stand_below wanted tags lines drawn [] sources = true
+all_stand_below wanted tags lines drawn (line ∷ rest) [] = false
+all_stand_below wanted tags lines drawn (line ∷ rest) (s ∷ sources) =
+    stands_below wanted tags lines drawn line s && all_stand_below wanted tags lines drawn rest sources
 
 -- each line stands below what it presupposes, which has a place
-abbrev pub StandBelow : List ℕ → List Told → List Drawn → Type 0
-StandBelow tags lines drawn = (sources : List Sources) × (all_stand_below tags lines drawn drawn sources ≡ true)
+abbrev pub StandBelow : Wanted → List ℕ → List Told → List Drawn → Type 0
+StandBelow wanted tags lines drawn = (sources : List Sources) × (all_stand_below wanted tags lines drawn drawn sources ≡ true)
 
 -- the lines stand one below another, the first in this row
 abbrev pub StandFrom : ℕ → List Drawn → Type 0
@@ -118,6 +112,6 @@ StandFrom row [] = Unit {0}
 StandFrom row (line ∷ lines) = (line.row ≡ row) × StandFrom (row + 1) lines
 
 -- each line stands below what it presupposes; or, where that is not so, the lines stand in the order of the report
-abbrev pub AreOrdered : Bool → List ℕ → List Told → List Drawn → Type 0
-AreOrdered true tags lines drawn = StandBelow tags lines drawn
-AreOrdered false tags lines drawn = StandFrom 0 drawn
+abbrev pub AreOrdered : Bool → Wanted → List ℕ → List Told → List Drawn → Type 0
+AreOrdered true wanted tags lines drawn = StandBelow wanted tags lines drawn
+AreOrdered false wanted tags lines drawn = StandFrom 0 drawn

@@ -1,5 +1,5 @@
--- Which lines stand in a picture, and where.
-use Rattle.std.specs.Prelude.{◌≡◌, ◌<◌, ◌+◌, ℕ, List, [], ◌∷◌, ◌++◌, length, map, filter, Bool, true, false, ◌==◌, ◌&&◌, ◌||◌, not, nat_le, nat_lt, Option, Some, None, if◌then◌else◌}
+-- Which lines are drawn in a picture, and where.
+use Rattle.std.specs.Prelude.{◌≡◌, ◌<◌, ◌+◌, ℕ, List, [], ◌∷◌, ◌++◌, length, map, Bool, true, false, ◌==◌, ◌&&◌, ◌||◌, not, nat_le, nat_lt, Option, Some, None, if◌then◌else◌}
 use Rattle.std.specs.Option.{is_some}
 use Rattle.report_reader.specs.declared.line.Said.{Said}
 use Rattle.report_reader.specs.declared.line.Said.TheVariants.{Note, Job, Element}
@@ -8,7 +8,7 @@ use Rattle.report_reader.specs.Reading.{told}
 use Rattle.report_picture.specs.declared.columns.Wanted.{Wanted}
 use Rattle.report_picture.specs.declared.picture.Column.{Column}
 use Rattle.report_picture.specs.declared.picture.Drawn.{Drawn}
-use Rattle.report_picture.specs.declared.picture.Picture.{Picture}
+use Rattle.report_picture.specs.LineWords.{is_bookkeeping}
 
 -- ---- the columns
 
@@ -74,6 +74,24 @@ column_of tags Element = None
 abbrev pub is_of : List ℕ → Told → Bool
 is_of tags line = is_some (column_of tags line.0)
 
+-- the line is left out
+abbrev pub is_left_out : Wanted → List ℕ → Bool
+is_left_out wanted line = wanted.only_channels && is_bookkeeping line
+
+-- the line is drawn: it is not left out, and its coroutine has a column
+abbrev pub is_drawn : Wanted → List ℕ → Told → Bool
+is_drawn wanted tags line = not (is_left_out wanted line.1) && is_of tags line
+
+-- the row is between those asked for, which are counted from 1; the last number there is asks for all from the first on
+abbrev pub is_within : Wanted → Drawn → Bool
+is_within wanted drawn = nat_le wanted.from (drawn.row + 1) && (nat_lt drawn.row wanted.to || wanted.to == 4294967295)
+
+-- the line tells what became of an element
+abbrev pub is_element : Told → Bool
+is_element (Note tag, line) = false
+is_element (Job row, line) = false
+is_element (Element, line) = true
+
 -- the other coroutine that a line concerns, if it names one, has a column
 abbrev pub is_target : List ℕ → Option ℕ → Bool
 is_target tags None = true
@@ -104,14 +122,3 @@ EndsAbove column row (d ∷ (e ∷ ds)) = EndsAbove column row (e ∷ ds)
 -- the lines that are drawn
 abbrev pub lines_in : List Drawn → List Told
 lines_in drawn = map (λ d. told d.line) drawn
-
--- ---- the picture
-
--- each line of the books of the coroutines asked for stands in the picture once, in the column of its coroutine, and those of a column
--- in the order of its book; the columns stand beside one another
-pub record Shows (wanted : Wanted) (lines : List Told) (picture : Picture) : Type 0 where
-  pub columns : map (λ c. c.tag) picture.columns.items ≡ tags_of wanted lines
-  pub beside : StandBeside 0 picture.columns.items
-  pub once : lines_in picture.lines.items ≡ filter (is_of (tags_of wanted lines)) lines
-  pub in_columns : StandInColumns (tags_of wanted lines) picture.lines.items
-  pub in_order : StandInOrder picture.lines.items

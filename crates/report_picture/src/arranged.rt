@@ -3,10 +3,10 @@
 ghost use Rattle.std.specs.Prelude.{◌≡◌, IfOk, filter, true};
 ghost use Rattle.report_reader.specs.Reading.{told_lines};
 ghost use Rattle.report_picture.specs.Order.{AreOrdered, StandBelow};
-ghost use Rattle.report_picture.specs.Pictures.{StandInColumns, StandInOrder, is_of, lines_in};
+ghost use Rattle.report_picture.specs.Pictures.{StandInColumns, StandInOrder, is_drawn, lines_in};
 
 use crate::causes::causes_of;
-use crate::columns::is_among;
+use crate::columns::{Wanted, is_among};
 use crate::filled::filled;
 use crate::notes::Note;
 use crate::order::order_of;
@@ -19,7 +19,7 @@ use co_base::Memory;
 use report_reader::Line;
 use std::alloc::{AllocError, Global};
 
-/// The numbers of the lines of the books from the top down, and of each line its row: how many lines of the picture stand above it.
+/// The numbers of the lines of the books from the top down, and of each line its row: how many lines that are drawn stand above it.
 #[derive(Drop)]
 pub(crate) struct Rows {
     pub(crate) numbers: Vec<usize>,
@@ -28,7 +28,7 @@ pub(crate) struct Rows {
     pub(crate) end: u32,
 }
 
-/// The lines of a picture, and whether each stands below what it presupposes.
+/// The lines that are drawn, and whether each stands below what it presupposes.
 #[derive(Drop)]
 pub(crate) struct Arranged<'a> {
     pub(crate) rows: Rows,
@@ -36,32 +36,35 @@ pub(crate) struct Arranged<'a> {
     pub(crate) in_order: bool,
 }
 
-/// The lines of a report, what those of the books say, and the coroutines that have a column.
+/// The lines of a report, what those of the books say, what is asked for, and the coroutines that have a column.
 #[derive(Clone, Copy)]
 pub(crate) struct Books<'s, 'a> {
     pub(crate) lines: &'s [Line<'a>],
     pub(crate) notes: &'s [Note<'a>],
     pub(crate) tables: &'s Tables<'a>,
+    pub(crate) wanted: Wanted,
     pub(crate) tags: &'s [u32],
     /// Of each line of the books the other coroutine that it concerns.
     pub(crate) targets: &'s [Option<u32>],
 }
 
+impl Books<'_, '_> {
+    /// Whether a line of the books is drawn.
+    pub(crate) fn is_drawn(&self, note: &Note) -> bool {
+        !(self.wanted.only_channels && note.is_bookkeeping()) && is_among(note.tag, self.tags)
+    }
+}
+
 /// Of each line its row, from the numbers of the lines from the top down.
-fn rows_in(
-    alloc: Global,
-    notes: &[Note],
-    tags: &[u32],
-    numbers: Vec<usize>,
-) -> Result<Rows, AllocError> {
-    let mut rows = filled(alloc, 0u32, notes.len())?;
+fn rows_in(alloc: Global, books: Books, numbers: Vec<usize>) -> Result<Rows, AllocError> {
+    let mut rows = filled(alloc, 0u32, books.notes.len())?;
     let mut end = 0u32;
     for number in numbers.as_slice() {
         if let Some(place) = rows.get_mut(*number) {
             *place = end;
         }
-        if let Some(note) = notes.get(*number)
-            && is_among(note.tag, tags)
+        if let Some(note) = books.notes.get(*number)
+            && books.is_drawn(note)
         {
             end = end.saturating_add(1);
         }
@@ -73,7 +76,7 @@ fn rows_in(
 fn allowed_rows<'a>(alloc: Global, books: Books<'_, 'a>) -> Result<Rows, AllocError> {
     let causes = causes_of(alloc, books.notes, books.tables)?;
     let numbers = order_of(alloc, books.notes.len(), causes.as_slice())?;
-    rows_in(alloc, books.notes, books.tags, numbers)
+    rows_in(alloc, books, numbers)
 }
 
 /// The rows in the order of the report.
@@ -82,14 +85,14 @@ fn told_rows<'a>(alloc: Global, books: Books<'_, 'a>) -> Result<Rows, AllocError
     for (number, _) in books.notes.iter().enumerate() {
         numbers.push(number)?;
     }
-    rows_in(alloc, books.notes, books.tags, numbers)
+    rows_in(alloc, books, numbers)
 }
 
 /// Whether each of these lines stands below what it presupposes, which stands where its sources say.
 fn stand_below<'a>(books: Books<'_, 'a>, drawn: &[Drawn<'a>], sources: &[Sources]) -> bool
-    ensures { result ≡ true → StandBelow books.entry.tags.now (told_lines books.entry.lines.now) drawn.now }
+    ensures { result ≡ true → StandBelow books.entry.wanted books.entry.tags.now (told_lines books.entry.lines.now) drawn.now }
 {
-    all_stand_below(books.tags, books.lines, drawn, sources)
+    all_stand_below(books.wanted, books.tags, books.lines, drawn, sources)
 }
 
 /// Whether each of these lines is found to stand below what it presupposes.
@@ -99,7 +102,8 @@ fn is_allowed<'a>(
     rows: &Rows,
     drawn: &[Drawn<'a>],
 ) -> Result<bool, AllocError>
-    ensures { IfOk result (λ is. is ≡ true → StandBelow books.entry.tags.now (told_lines books.entry.lines.now) drawn.now) }
+    ensures { IfOk result (λ is. is ≡ true
+        → StandBelow books.entry.wanted books.entry.tags.now (told_lines books.entry.lines.now) drawn.now) }
 {
     let sources = sources_in(
         alloc,
@@ -114,14 +118,14 @@ fn is_allowed<'a>(
 /// The lines in the order of the report.
 fn arranged_as_told<'a>(alloc: Global, books: Books<'_, 'a>) -> Result<Arranged<'a>, Memory>
     ensures once { IfOk result (λ arranged.
-        lines_in arranged.drawn.items ≡ filter (is_of books.entry.tags.now) (told_lines books.entry.lines.now)) }
+        lines_in arranged.drawn.items ≡ filter (is_drawn books.entry.wanted books.entry.tags.now) (told_lines books.entry.lines.now)) }
     ensures columns { IfOk result (λ arranged. StandInColumns books.entry.tags.now arranged.drawn.items) }
     ensures order { IfOk result (λ arranged. StandInOrder arranged.drawn.items) }
     ensures ordered { IfOk result (λ arranged.
-        AreOrdered arranged.in_order books.entry.tags.now (told_lines books.entry.lines.now) arranged.drawn.items) }
+        AreOrdered arranged.in_order books.entry.wanted books.entry.tags.now (told_lines books.entry.lines.now) arranged.drawn.items) }
 {
     let rows = told_rows(alloc, books)?;
-    let drawn = drawn_as_told(alloc, books.tags, books.lines, books.targets)?;
+    let drawn = drawn_as_told(alloc, books.wanted, books.tags, books.lines, books.targets)?;
     Ok(Arranged {
         rows,
         drawn,
@@ -132,15 +136,16 @@ fn arranged_as_told<'a>(alloc: Global, books: Books<'_, 'a>) -> Result<Arranged<
 /// The lines, each below what it presupposes; where no order does, in the order of the report.
 pub(crate) fn arrange<'a>(alloc: Global, books: Books<'_, 'a>) -> Result<Arranged<'a>, Memory>
     ensures once { IfOk result (λ arranged.
-        lines_in arranged.drawn.items ≡ filter (is_of books.entry.tags.now) (told_lines books.entry.lines.now)) }
+        lines_in arranged.drawn.items ≡ filter (is_drawn books.entry.wanted books.entry.tags.now) (told_lines books.entry.lines.now)) }
     ensures columns { IfOk result (λ arranged. StandInColumns books.entry.tags.now arranged.drawn.items) }
     ensures order { IfOk result (λ arranged. StandInOrder arranged.drawn.items) }
     ensures ordered { IfOk result (λ arranged.
-        AreOrdered arranged.in_order books.entry.tags.now (told_lines books.entry.lines.now) arranged.drawn.items) }
+        AreOrdered arranged.in_order books.entry.wanted books.entry.tags.now (told_lines books.entry.lines.now) arranged.drawn.items) }
 {
     let rows = allowed_rows(alloc, books)?;
     let drawn = drawn_in(
         alloc,
+        books.wanted,
         books.tags,
         books.lines,
         rows.rows.as_slice(),

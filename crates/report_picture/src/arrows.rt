@@ -1,242 +1,181 @@
-//! The ways of elements and of cancellations.
+//! The arrows: of elements, of cancellations, and from what brought a line about.
 
-use crate::layout::{BAR, INDENT, LEVEL};
-use crate::looks::Look;
-use crate::marks::{push_path, push_text};
+use crate::causes::sent_by;
+use crate::looks::{Look, Shade};
 use crate::notes::{Note, Verb};
-use crate::picture::{Mark, Way};
-use crate::sheet::Sheet;
-use report_reader::{Line, Said, words_of};
+use crate::tables::Tables;
 use std::alloc::{AllocError, Global};
+use std::collections::HashMap;
 
-/// How many ways stand beside one another in front of a bar.
-const LANES: u64 = 5;
+/// An arrow from one line to another, by their numbers among the lines of the books.
+#[derive(Clone, Copy)]
+pub(crate) struct Arrow {
+    pub(crate) from: usize,
+    pub(crate) to: usize,
+    pub(crate) look: Look,
+}
 
-/// The lane in front of a column's bar for its next way, by how many came before.
-fn next_lane(lanes: &mut Vec<u64>, column: usize) -> u64 {
-    match lanes.get_mut(column) {
-        Some(next) => {
-            let lane = *next % LANES;
-            *next = lane + 1;
-            lane
+/// The channels whose elements have arrows, in the order in which the report first tells of one.
+#[derive(Drop)]
+pub(crate) struct Channels<'a> {
+    pub(crate) names: Vec<&'a [u8]>,
+    numbers: HashMap<&'a [u8], usize>,
+}
+
+/// The looks of channels; the ninth looks like the first.
+const SHADES: [Shade; 8] = [
+    Shade::Blue,
+    Shade::Green,
+    Shade::Purple,
+    Shade::Black,
+    Shade::DashedBlue,
+    Shade::DashedGreen,
+    Shade::DashedPurple,
+    Shade::DashedBlack,
+];
+
+/// How the arrows of the channel with this number look.
+pub(crate) fn shade_of(number: usize) -> Shade {
+    match SHADES.get(number % 8) {
+        Some(shade) => *shade,
+        None => Shade::Blue,
+    }
+}
+
+impl<'a> Channels<'a> {
+    fn add(&mut self, channel: &'a [u8]) -> Result<(), AllocError> {
+        if self.numbers.get(&channel).is_none() {
+            self.numbers.insert(channel, self.names.len())?;
+            self.names.push(channel)?;
         }
-        None => 0,
+        Ok(())
+    }
+
+    fn look(&self, channel: &'a [u8]) -> Look {
+        match self.numbers.get(&channel) {
+            Some(number) => Look::Brings(shade_of(*number)),
+            None => Look::Brings(Shade::Blue),
+        }
     }
 }
 
-/// A way with its point: from where it starts, by a lane in front of the column where it ends.
-fn push_bent<'a>(
-    marks: &mut Vec<Mark<'a>>,
-    start: (u64, u64),
-    lane: u64,
-    end: (u64, u64),
-    looks: (Look, Look),
-    title: &'a [u8],
-) -> Result<(), AllocError> {
-    let (x, y) = start;
-    let (to_left, to_y) = end;
-    let way = Way::Bent {
-        x,
-        y,
-        level: y.saturating_add(LEVEL),
-        lane: to_left.saturating_sub(lane.saturating_mul(5).saturating_add(12)),
-        to_y,
-        to_x: to_left.saturating_sub(2),
+/// The channels whose elements have arrows.
+pub(crate) fn channels_of<'a>(
+    alloc: Global,
+    notes: &[Note<'a>],
+    tables: &Tables<'a>,
+) -> Result<Channels<'a>, AllocError> {
+    let mut channels = Channels {
+        names: Vec::new(alloc),
+        numbers: HashMap::new(alloc),
     };
-    push_path(marks, way, looks.0, title)?;
-    let point = Way::Point {
-        x: to_left,
-        y: to_y,
-    };
-    push_path(marks, point, looks.1, title)
-}
-
-/// The lane for the next way to a line.
-fn lane_to(lanes: &mut Vec<u64>, sheet: &Sheet, number: usize) -> u64 {
-    match sheet.column(sheet.tag_at(number)) {
-        Some(column) => next_lane(lanes, column),
-        None => 0,
+    for note in notes {
+        if got(notes, tables, note).is_some() {
+            channels.add(note.channel)?;
+        }
     }
+    Ok(channels)
 }
 
-/// A way from one line to another, if both have a column.
-fn push_way<'a>(
-    marks: &mut Vec<Mark<'a>>,
-    lanes: &mut Vec<u64>,
-    sheet: &Sheet<'_, 'a>,
-    from: usize,
-    to: usize,
-    looks: (Look, Look),
-) -> Result<(), AllocError> {
-    let (Some(left), Some(to_left)) = (sheet.left_at(from), sheet.left_at(to)) else {
-        return Ok(());
-    };
-    let lane = lane_to(lanes, sheet, to);
-    let start = (left.saturating_add(BAR / 2), sheet.y(from));
-    let end = (to_left, sheet.y(to));
-    push_bent(marks, start, lane, end, looks, sheet.text_at(from))
+/// The line in which the receiver goes on that waited at a place.
+pub(crate) fn settled_at<'a>(
+    notes: &[Note<'a>],
+    tables: &Tables<'a>,
+    channel: &'a [u8],
+    place: &'a [u8],
+) -> Option<usize> {
+    let number = tables.place(channel, place).awaits?;
+    match notes.get(number) {
+        Some(note) => tables.wait(note.wait).settles,
+        None => None,
+    }
 }
 
 /// The line that got what this line brought, if one did.
-fn got<'a>(sheet: &Sheet<'_, 'a>, note: &Note<'a>) -> Option<usize> {
+fn got<'a>(notes: &[Note<'a>], tables: &Tables<'a>, note: &Note<'a>) -> Option<usize> {
     match note.verb {
-        Verb::Hand => sheet.settled_at(note.channel, note.place),
-        Verb::Put | Verb::Offer => sheet.tables.place(note.channel, note.place).takes,
+        Verb::Hand => settled_at(notes, tables, note.channel, note.place),
+        Verb::Put | Verb::Offer => tables.place(note.channel, note.place).takes,
         _ => None,
     }
 }
 
-/// An element: its channel, its place and what it is, with a text behind it.
-fn element(
-    alloc: Global,
-    channel: &[u8],
-    place: &[u8],
-    value: &[u8],
-    end: &[u8],
-) -> Result<Vec<u8>, AllocError> {
-    let mut text = Vec::from_slice(alloc, channel)?;
-    text.extend_from_slice(b".")?;
-    text.extend_from_slice(place)?;
-    text.extend_from_slice(b": ")?;
-    text.extend_from_slice(value)?;
-    text.extend_from_slice(end)?;
-    Ok(text)
-}
-
-/// What the element is that this line brought, if both lines have a column.
-fn push_element_text<'a>(
-    alloc: Global,
-    marks: &mut Vec<Mark<'a>>,
-    sheet: &Sheet<'_, 'a>,
-    number: usize,
-    to: usize,
-    note: &Note<'a>,
-) -> Result<(), AllocError> {
-    let (Some(left), Some(_)) = (sheet.left_at(number), sheet.left_at(to)) else {
-        return Ok(());
+/// The first line of the coroutine that this line launched or started, if it did.
+fn begun<'a>(tables: &Tables<'a>, note: &Note<'a>) -> Option<usize> {
+    let begins = match note.verb {
+        Verb::Attach => note.launches() && !note.is_lazy(),
+        Verb::Start => true,
+        _ => false,
     };
-    let text = element(alloc, note.channel, note.place, note.value, b"")?;
-    let y = sheet.y(number).saturating_add(LEVEL - 5);
-    let x = left.saturating_add(INDENT);
-    push_text(marks, (x, y), Look::Label, text, note.text)
+    if begins {
+        tables.row(note.row).first
+    } else {
+        None
+    }
 }
 
-/// The way of the element that this line brought, if another line got it.
-fn push_element<'a>(
-    alloc: Global,
-    marks: &mut Vec<Mark<'a>>,
-    lanes: &mut Vec<u64>,
-    sheet: &Sheet<'_, 'a>,
+/// Adds an arrow, if both its lines are there.
+fn push(
+    arrows: &mut Vec<Arrow>,
+    from: Option<usize>,
+    to: Option<usize>,
+    look: Look,
+) -> Result<(), AllocError> {
+    if let (Some(from), Some(to)) = (from, to)
+        && from != to
+    {
+        arrows.push(Arrow { from, to, look })?;
+    }
+    Ok(())
+}
+
+/// Adds the arrows that a line tells of: that of the element that it brought, of the cancellation that it saw, of what resolved the
+/// wait that it placed or woke, and of the coroutine that it began.
+fn push_arrows<'a>(
+    arrows: &mut Vec<Arrow>,
+    notes: &[Note<'a>],
+    tables: &Tables<'a>,
+    channels: &Channels<'a>,
     number: usize,
     note: &Note<'a>,
 ) -> Result<(), AllocError> {
-    let Some(to) = got(sheet, note) else {
-        return Ok(());
-    };
-    let looks = (Look::Brings, Look::BringsEnd);
-    push_way(marks, lanes, sheet, number, to, looks)?;
-    push_element_text(alloc, marks, sheet, number, to, note)
-}
-
-/// The ways of the elements, each from the line that brought it to the line that got it.
-pub(crate) fn push_elements<'a>(
-    alloc: Global,
-    marks: &mut Vec<Mark<'a>>,
-    lanes: &mut Vec<u64>,
-    sheet: &Sheet<'_, 'a>,
-) -> Result<(), AllocError> {
-    for (number, note) in sheet.notes.iter().enumerate() {
-        push_element(alloc, marks, lanes, sheet, number, note)?;
-    }
-    Ok(())
-}
-
-/// The ways of the cancellations, each from the `cancel` to the line that saw it.
-pub(crate) fn push_cancels<'a>(
-    marks: &mut Vec<Mark<'a>>,
-    lanes: &mut Vec<u64>,
-    sheet: &Sheet<'_, 'a>,
-) -> Result<(), AllocError> {
-    let looks = (Look::Cancels, Look::CancelsEnd);
-    for (number, note) in sheet.notes.iter().enumerate() {
-        if matches!(note.verb, Verb::Saw)
-            && let Some(from) = sheet.tables.row(note.row).cancels
-        {
-            push_way(marks, lanes, sheet, from, number, looks)?;
+    let here = Some(number);
+    match note.verb {
+        Verb::Saw => push(arrows, tables.row(note.row).cancels, here, Look::Cancels),
+        Verb::WakeClosed => {
+            let settle = settled_at(notes, tables, note.channel, note.place);
+            push(arrows, here, settle, Look::Joins)
         }
-    }
-    Ok(())
-}
-
-/// The line at which an element ended that nobody received.
-fn end_of<'a>(sheet: &Sheet<'_, 'a>, channel: &'a [u8], place: &'a [u8]) -> Option<usize> {
-    let of = sheet.tables.place(channel, place);
-    match (of.gives_up, sheet.settled_at(channel, place)) {
-        (Some(number), _) | (None, Some(number)) => Some(number),
-        (None, None) => of.brings,
-    }
-}
-
-/// The ends of the elements that nobody received.
-pub(crate) fn push_lost<'a>(
-    alloc: Global,
-    marks: &mut Vec<Mark<'a>>,
-    sheet: &Sheet<'_, 'a>,
-    lines: &[Line<'a>],
-) -> Result<(), AllocError> {
-    let mut words: Vec<&'a [u8]> = Vec::new(alloc);
-    for line in lines {
-        if line.said == Said::Element {
-            words_of(&mut words, line.text)?;
-            push_lost_one(alloc, marks, sheet, line.text, words.as_slice())?;
+        Verb::Attach | Verb::Start => push(arrows, here, begun(tables, note), Look::Joins),
+        Verb::Offer => {
+            let by = sent_by(tables.place(note.channel, note.place));
+            push(arrows, by, tables.wait(note.wait).settles, Look::Joins)?;
+            push(
+                arrows,
+                here,
+                got(notes, tables, note),
+                channels.look(note.channel),
+            )
         }
+        _ => push(
+            arrows,
+            here,
+            got(notes, tables, note),
+            channels.look(note.channel),
+        ),
     }
-    Ok(())
 }
 
-fn push_lost_one<'a>(
+/// The arrows of the lines of the books.
+pub(crate) fn arrows_of<'a>(
     alloc: Global,
-    marks: &mut Vec<Mark<'a>>,
-    sheet: &Sheet<'_, 'a>,
-    title: &'a [u8],
-    words: &[&'a [u8]],
-) -> Result<(), AllocError> {
-    let [_, channel, place, value, fate] = words else {
-        return Ok(());
-    };
-    let Some(number) = end_of(sheet, *channel, *place) else {
-        return Ok(());
-    };
-    let Some(left) = sheet.left_at(number) else {
-        return Ok(());
-    };
-    let text = lost_element(alloc, *channel, *place, *value, *fate)?;
-    let y = sheet.y(number).saturating_add(LEVEL - 6);
-    push_cross(marks, left.saturating_add(INDENT + 4), y, text, title)
-}
-
-/// An element, and what became of it.
-fn lost_element(
-    alloc: Global,
-    channel: &[u8],
-    place: &[u8],
-    value: &[u8],
-    fate: &[u8],
-) -> Result<Vec<u8>, AllocError> {
-    let mut text = element(alloc, channel, place, value, b" ")?;
-    text.extend_from_slice(fate)?;
-    Ok(text)
-}
-
-/// A cross, with a text beside it.
-fn push_cross<'a>(
-    marks: &mut Vec<Mark<'a>>,
-    x: u64,
-    y: u64,
-    text: Vec<u8>,
-    title: &'a [u8],
-) -> Result<(), AllocError> {
-    push_path(marks, Way::Cross { x, y }, Look::Lost, title)?;
-    let place = (x.saturating_add(10), y.saturating_add(4));
-    push_text(marks, place, Look::Label, text, title)
+    notes: &[Note<'a>],
+    tables: &Tables<'a>,
+    channels: &Channels<'a>,
+) -> Result<Vec<Arrow>, AllocError> {
+    let mut arrows = Vec::new(alloc);
+    for (number, note) in notes.iter().enumerate() {
+        push_arrows(&mut arrows, notes, tables, channels, number, note)?;
+    }
+    Ok(arrows)
 }

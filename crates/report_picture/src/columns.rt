@@ -8,11 +8,17 @@ ghost use Rattle.report_reader.specs.Reading.{told_lines};
 use report_reader::{Line, Said};
 use std::alloc::{AllocError, Global};
 
-/// The coroutines that are asked for: those from the first of these tags to the last.
+/// What is asked for.
 #[derive(Clone, Copy)]
 pub struct Wanted {
+    /// The first and the last coroutine, by their tags.
     pub first: u32,
     pub last: u32,
+    /// The lines that are bookkeeping of Jobs are left out.
+    pub only_channels: bool,
+    /// The first and the last row, counted from 1; `u32::MAX` asks for all from the first on.
+    pub from: u32,
+    pub to: u32,
 }
 
 /// The most columns of a picture.

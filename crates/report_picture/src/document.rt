@@ -3,12 +3,13 @@
 ghost use Rattle.std.specs.Prelude.{◌≡◌, ◌++◌, ◌+◌, [], map, IfOk, OnOk};
 ghost use Rattle.std.specs.Fmt.{decimal};
 ghost use lib.Chars.{codes};
-ghost use Rattle.report_picture.specs.Elements.{attribute_text, attributes_text, box_node, coroutine_node, document_attributes, escape, escaped, head_node, head_nodes, job_node, left_of, line_node, mark_node, node_text, nodes_text, path_node, rest_text, style, style_node, svg_text, text_node, title_text, way_text};
+ghost use Rattle.report_picture.specs.Elements.{attribute_text, attributes_text, box_node, coroutine_node, document_attributes, escape, escaped, fate_label, fate_node, fate_nodes, fate_nodes_of, head_node, head_nodes, job_node, left_of, line_node, mark_node, node_text, nodes_text, path_node, rest_text, style, style_node, svg_text, text_node, title_text, way_text};
 ghost use Rattle.report_picture.specs.WellFormed.{IsDocument};
 
 use crate::layout::{label_of, row_y};
+use crate::line_words::word;
 use crate::looks::Look;
-use crate::picture::{Column, Drawn, Mark, Picture, Way};
+use crate::picture::{Column, Drawn, Lost, Mark, Picture, Spot, Way};
 use std::alloc::{AllocError, Global};
 
 // ---- texts
@@ -59,7 +60,7 @@ fn number(alloc: Global, n: u64) -> Result<Vec<u8>, AllocError>
 }
 
 /// Adds a number in decimal.
-fn push_decimal(alloc: Global, out: &mut Vec<u8>, n: u64) -> Result<(), AllocError>
+pub(crate) fn push_decimal(alloc: Global, out: &mut Vec<u8>, n: u64) -> Result<(), AllocError>
     ensures { OnOk result (out.new.items ≡ out.old.items ++ decimal n) }
 {
     let text = number(alloc, n)?;
@@ -97,27 +98,17 @@ fn down_text(alloc: Global, x: u64, from: u64, to: u64) -> Result<Vec<u8>, Alloc
 fn bent_text(
     alloc: Global,
     start: (u64, u64),
-    level: u64,
     lane: u64,
     end: (u64, u64),
 ) -> Result<Vec<u8>, AllocError>
-    ensures { IfOk result (λ text. text.items ≡ way_text (Way.Bent start.0 start.1 level lane end.1 end.0)) }
+    ensures { IfOk result (λ text. text.items ≡ way_text (Way.Bent start.0 start.1 lane end.1 end.0)) }
 {
     let mut out = Vec::new(alloc);
     push_move(alloc, &mut out, start.0, start.1)?;
-    push_step(alloc, &mut out, b"V", level)?;
     push_step(alloc, &mut out, b"H", lane)?;
     push_step(alloc, &mut out, b"V", end.1)?;
     push_step(alloc, &mut out, b"H", end.0)?;
-    Ok(out)
-}
-
-fn point_text(alloc: Global, x: u64, y: u64) -> Result<Vec<u8>, AllocError>
-    ensures { IfOk result (λ text. text.items ≡ way_text (Way.Point x y)) }
-{
-    let mut out = Vec::new(alloc);
-    push_move(alloc, &mut out, x, y)?;
-    out.extend_from_slice(b"l-8-4v8z")?;
+    out.extend_from_slice(b"l-6-3m6 3l-6 3")?;
     Ok(out)
 }
 
@@ -138,13 +129,11 @@ fn way_text(alloc: Global, way: Way) -> Result<Vec<u8>, AllocError>
         Way::Down { x, from, to } => down_text(alloc, x, from, to),
         Way::Bent {
             x,
-            y,
             level,
             lane,
             to_y,
             to_x,
-        } => bent_text(alloc, (x, y), level, lane, (to_x, to_y)),
-        Way::Point { x, y } => point_text(alloc, x, y),
+        } => bent_text(alloc, (x, level), lane, (to_x, to_y)),
         Way::Cross { x, y } => cross_text(alloc, x, y),
     }
 }
@@ -306,35 +295,79 @@ fn left_of(columns: &[Column], column: usize) -> u64
 fn push_line(
     alloc: Global,
     out: &mut Vec<u8>,
-    columns: &[Column],
+    picture: &Picture,
     drawn: &Drawn,
 ) -> Result<(), AllocError>
-    ensures { OnOk result (out.new.items ≡ out.old.items ++ node_text (line_node columns.now drawn.now)) }
+    ensures { OnOk result (out.new.items ≡ out.old.items ++ node_text (line_node picture.now drawn.now)) }
 {
-    let x = left_of(columns, drawn.column);
+    let x = left_of(picture.columns.as_slice(), drawn.column);
+    let y = row_y(picture.top, drawn.row.saturating_sub(picture.first)) + 4;
     let text = drawn.line.text;
-    push_text(
-        alloc,
-        out,
-        (x, row_y(drawn.row) + 4),
-        b"line",
-        label_of(text),
-        text,
-    )?;
-    Ok(())
+    push_text(alloc, out, (x, y), b"line", label_of(text), text)
 }
 
 fn push_lines(
     alloc: Global,
     out: &mut Vec<u8>,
-    columns: &[Column],
+    picture: &Picture,
     lines: &[Drawn],
 ) -> Result<(), AllocError>
-    ensures { OnOk result (out.new.items ≡ out.old.items ++ nodes_text (map (line_node columns.now) lines.now)) }
+    ensures { OnOk result (out.new.items ≡ out.old.items ++ nodes_text (map (line_node picture.now) lines.now)) }
 {
     let mut rest = lines;
     while let [drawn, more @ ..] = rest {
-        push_line(alloc, out, columns, drawn)?;
+        push_line(alloc, out, picture, drawn)?;
+        rest = more;
+    }
+    Ok(())
+}
+
+// ---- fates
+
+/// An element that was not received: its channel, its place, its value and its fate, by the line that tells it.
+fn fate_label(alloc: Global, line: &[u8]) -> Result<Vec<u8>, AllocError>
+    ensures { IfOk result (λ text. text.items ≡ fate_label line.now) }
+{
+    let mut text = Vec::from_slice(alloc, word(1, line))?;
+    text.extend_from_slice(b".")?;
+    text.extend_from_slice(word(2, line))?;
+    text.extend_from_slice(b": ")?;
+    text.extend_from_slice(word(3, line))?;
+    text.extend_from_slice(b" ")?;
+    text.extend_from_slice(word(4, line))?;
+    Ok(text)
+}
+
+fn push_fate_at(alloc: Global, out: &mut Vec<u8>, spot: Spot, line: &[u8]) -> Result<(), AllocError>
+    ensures { OnOk result (out.new.items ≡ out.old.items ++ node_text (fate_node spot line.now)) }
+{
+    let label = fate_label(alloc, line)?;
+    push_text(
+        alloc,
+        out,
+        (spot.x, spot.y),
+        b"fate",
+        label.as_slice(),
+        line,
+    )
+}
+
+fn push_fate(alloc: Global, out: &mut Vec<u8>, lost: &Lost) -> Result<(), AllocError>
+    ensures { OnOk result (out.new.items ≡ out.old.items ++ nodes_text (fate_nodes_of lost.now.at lost.now.line.text.now)) }
+{
+    match lost.at {
+        Some(spot) => push_fate_at(alloc, out, spot, lost.line.text),
+        None => Ok(()),
+    }
+}
+
+#[tactic(auto, using(crate::proofs::Documents::nodes_append))]
+fn push_fates(alloc: Global, out: &mut Vec<u8>, lost: &[Lost]) -> Result<(), AllocError>
+    ensures { OnOk result (out.new.items ≡ out.old.items ++ nodes_text (fate_nodes lost.now)) }
+{
+    let mut rest = lost;
+    while let [one, more @ ..] = rest {
+        push_fate(alloc, out, one)?;
         rest = more;
     }
     Ok(())
@@ -366,21 +399,27 @@ fn push_head_line(
     Ok(())
 }
 
-fn push_head(alloc: Global, out: &mut Vec<u8>, column: Column) -> Result<(), AllocError>
-    ensures { OnOk result (out.new.items ≡ out.old.items ++ node_text (coroutine_node column) ++ node_text (job_node column)) }
+fn push_head(alloc: Global, out: &mut Vec<u8>, top: u32, column: Column) -> Result<(), AllocError>
+    ensures { OnOk result (out.new.items ≡ out.old.items ++ node_text (coroutine_node top column) ++ node_text (job_node top column)) }
 {
-    push_head_line(alloc, out, (column.left, 80), b"coroutine ", column.tag)?;
-    push_head_line(alloc, out, (column.left, 96), b"Job ", column.tag)?;
+    let y = u64::from(top);
+    push_head_line(alloc, out, (column.left, y), b"coroutine ", column.tag)?;
+    push_head_line(alloc, out, (column.left, y + 16), b"Job ", column.tag)?;
     Ok(())
 }
 
 /// The heads of the columns: each coroutine, and the Job that it runs as.
-fn push_heads(alloc: Global, out: &mut Vec<u8>, columns: &[Column]) -> Result<(), AllocError>
-    ensures { OnOk result (out.new.items ≡ out.old.items ++ nodes_text (head_nodes columns.now)) }
+fn push_heads(
+    alloc: Global,
+    out: &mut Vec<u8>,
+    top: u32,
+    columns: &[Column],
+) -> Result<(), AllocError>
+    ensures { OnOk result (out.new.items ≡ out.old.items ++ nodes_text (head_nodes top columns.now)) }
 {
     let mut rest = columns;
     while let [column, more @ ..] = rest {
-        push_head(alloc, out, *column)?;
+        push_head(alloc, out, top, *column)?;
         rest = more;
     }
     Ok(())
@@ -391,13 +430,14 @@ fn push_heads(alloc: Global, out: &mut Vec<u8>, columns: &[Column]) -> Result<()
 fn style() -> &'static [u8]
     ensures { result.now ≡ style }
 {
-    b"text{font:11px monospace}.line,.label{stroke:#fff;stroke-width:3px;paint-order:stroke}.label{fill:#444}\
-    .head,.foot{font-weight:bold}.paper{fill:#fff}.new{fill:#fff;stroke:#000}.active{fill:#56b4e9}.completing{fill:#0072b2}\
-    .cancelling{fill:#e69f00}.completed{fill:#009e73}.cancelled{fill:#cc79a7}.failed{fill:#000}\
-    .tick{fill:#000;stroke:#fff;stroke-width:0.5}\
-    .wait{fill:none;stroke:#000;stroke-width:10;stroke-dasharray:1.5 3.5}.brings{fill:none;stroke:#0072b2;stroke-width:1.5}\
-    .bringsend{fill:#0072b2}.cancels{fill:none;stroke:#d55e00;stroke-width:1.5;stroke-dasharray:5 3}\
-    .cancelsend{fill:#d55e00}.lost{fill:none;stroke:#000;stroke-width:2}"
+    b"text{font:11px monospace}.line,.label,.fate{stroke:#fff;stroke-width:3px;paint-order:stroke}.label,.fate{fill:#444}\
+    .head,.foot,.hangs{font-weight:bold}.hangs{fill:#d55e00}.paper{fill:#fff}.new{fill:#fff;stroke:#000}.active{fill:#56b4e9}\
+    .completing{fill:#0072b2}.cancelling{fill:#e69f00}.completed{fill:#009e73}.cancelled{fill:#cc79a7}.failed{fill:#000}\
+    .past{fill:#999}.tick{fill:#000;stroke:#fff;stroke-width:0.5}\
+    .wait{fill:none;stroke:#000;stroke-width:10;stroke-dasharray:1.5 3.5}\
+    .a,.b,.c,.d,.e,.f,.g,.h,.cancels{fill:none;stroke-width:1.5}.a,.e{stroke:#0072b2}.b,.f{stroke:#009e73}.c,.g{stroke:#cc79a7}\
+    .d,.h{stroke:#000}.e,.f,.g,.h{stroke-dasharray:6 3}.cancels{stroke:#d55e00;stroke-dasharray:3 2}\
+    .joins{fill:none;stroke:#999;stroke-width:0.8}.lost{fill:none;stroke:#000;stroke-width:2}"
 }
 
 fn push_style_of(out: &mut Vec<u8>, text: &[u8]) -> Result<(), AllocError>
@@ -430,13 +470,13 @@ fn push_opening(alloc: Global, out: &mut Vec<u8>, width: u64, height: u64) -> Re
 fn svg_text(alloc: Global, picture: &Picture) -> Result<Vec<u8>, AllocError>
     ensures { IfOk result (λ text. text.items ≡ svg_text picture.now) }
 {
-    let columns = picture.columns.as_slice();
     let mut out = Vec::new(alloc);
     push_opening(alloc, &mut out, picture.width, picture.height)?;
     push_style(&mut out)?;
     push_marks(alloc, &mut out, picture.marks.as_slice())?;
-    push_heads(alloc, &mut out, columns)?;
-    push_lines(alloc, &mut out, columns, picture.lines.as_slice())?;
+    push_fates(alloc, &mut out, picture.lost.as_slice())?;
+    push_heads(alloc, &mut out, picture.top, picture.columns.as_slice())?;
+    push_lines(alloc, &mut out, picture, picture.lines.as_slice())?;
     out.extend_from_slice(b"</svg>\n")?;
     Ok(out)
 }

@@ -1,35 +1,49 @@
 //! Where rows, columns and texts stand.
 
-ghost use Rattle.std.specs.Prelude.{◌≡◌, ◌≤◌, ◌+◌, ◌++◌, ◌∷◌, [], IfOk, OnOk, map};
+ghost use Rattle.std.specs.Prelude.{◌≡◌, ◌≤◌, ◌<◌, ◌+◌, ◌++◌, ◌∷◌, [], IfOk, OnOk, map};
 ghost use Rattle.report_picture.specs.Elements.{label_of, rest_of, row_y};
 ghost use Rattle.report_picture.specs.Pictures.{StandBeside, last_text};
 
-use crate::filled::filled;
-use crate::picture::{Column, Drawn};
+use crate::picture::Column;
 use co_base::Memory;
 use report_reader::cut_at;
-use std::alloc::{AllocError, Global};
+use std::alloc::Global;
 
 /// How wide the bar of a life is.
 pub(crate) const BAR: u64 = 10;
 
-/// How far left of a bar there is room for the ways of arrows.
-const LANES: u64 = 36;
+/// How far left of a bar there is room without arrows.
+const MARGIN: u64 = 16;
+
+/// How far apart the lanes of arrows are.
+const LANE: u64 = 5;
 
 /// How far right of the left end of a bar the texts of its lines begin.
 pub(crate) const INDENT: u64 = 16;
 
-/// How far below the middle of a row the ways of arrows go across.
-pub(crate) const LEVEL: u64 = 21;
+/// How far below the middle of a row arrows go across.
+pub(crate) const LEVEL: u64 = 7;
 
 /// Half of the height of a row.
-pub(crate) const HALF: u64 = 17;
+pub(crate) const HALF: u64 = 8;
 
-/// Where the middle of a row is from the top.
-pub(crate) fn row_y(row: u32) -> u64
-    ensures { result ≡ row_y row }
+/// Where the middle of a row is from the top, by where the heads begin.
+pub(crate) fn row_y(top: u32, row: u32) -> u64
+    ensures { result ≡ row_y top row }
 {
-    120 + 34 * u64::from(row)
+    u64::from(top) + 40 + 17 * u64::from(row)
+}
+
+/// Where a lane is from the left, by where its bar begins.
+pub(crate) fn lane_x(left: u64, lane: u32) -> u64 {
+    left.saturating_sub(u64::from(lane).saturating_mul(LANE).saturating_add(10))
+}
+
+/// How far left of a bar there is room, with so many lanes.
+fn room_of(lanes: u32) -> u64
+    ensures { 0 < result }
+{
+    u64::from(lanes) * LANE + MARGIN
 }
 
 /// How wide a text of so many bytes is, about.
@@ -55,24 +69,6 @@ pub(crate) fn label_of(text: &[u8]) -> &[u8]
     rest_of(rest)
 }
 
-/// How many bytes the longest text of each column has.
-pub(crate) fn widths_of(
-    alloc: Global,
-    columns: usize,
-    drawn: &[Drawn],
-) -> Result<Vec<usize>, AllocError> {
-    let mut widths = filled(alloc, 14usize, columns)?;
-    for d in drawn {
-        let bytes = label_of(d.line.text).len();
-        if let Some(width) = widths.get_mut(d.column)
-            && *width < bytes
-        {
-            *width = bytes;
-        }
-    }
-    Ok(widths)
-}
-
 /// Further to the right; a picture that is too wide is none that memory holds.
 fn further(x: u64, by: u64) -> Result<u64, Memory>
     ensures { IfOk result (λ further. further ≡ x + by) }
@@ -85,14 +81,14 @@ fn further(x: u64, by: u64) -> Result<u64, Memory>
 
 /// Adds the column of a coroutine to the right of the others, and answers where its texts begin.
 #[tactic(auto, using(crate::proofs::Beside::beside_more, crate::proofs::Beside::last_of_more))]
-fn push_column(columns: &mut Vec<Column>, tag: u32, edge: u64) -> Result<u64, Memory>
+fn push_column(columns: &mut Vec<Column>, tag: u32, lanes: u32, edge: u64) -> Result<u64, Memory>
     requires beside { StandBeside 0 columns.old.items }
     requires edge { last_text 0 columns.old.items ≤ edge }
     ensures tags { OnOk result (map (λ c. c.tag) columns.new.items ≡ map (λ c. c.tag) columns.old.items ++ tag ∷ []) }
     ensures beside { OnOk result (StandBeside 0 columns.new.items) }
     ensures last { IfOk result (λ text. text ≡ last_text 0 columns.new.items) }
 {
-    let left = further(edge, LANES)?;
+    let left = further(edge, room_of(lanes))?;
     let text = further(left, INDENT)?;
     columns.push(Column { tag, left, text })?;
     Ok(text)
@@ -102,6 +98,7 @@ fn push_column(columns: &mut Vec<Column>, tag: u32, edge: u64) -> Result<u64, Me
 pub(crate) fn columns_of(
     alloc: Global,
     tags: &[u32],
+    lanes: &[u32],
     widths: &[usize],
 ) -> Result<Vec<Column>, Memory>
     ensures tags { IfOk result (λ columns. map (λ c. c.tag) columns.items ≡ tags.now) }
@@ -112,12 +109,20 @@ pub(crate) fn columns_of(
     let mut rest = tags;
     let mut i = 0usize;
     while let [tag, more @ ..] = rest {
-        let text = push_column(&mut columns, *tag, edge)?;
+        let text = push_column(&mut columns, *tag, lanes_at(lanes, i), edge)?;
         edge = further(text, width_at(widths, i))?;
         i = i.saturating_add(1);
         rest = more;
     }
     Ok(columns)
+}
+
+/// How many lanes a column has.
+fn lanes_at(lanes: &[u32], i: usize) -> u32 {
+    match lanes.get(i) {
+        Some(lanes) => *lanes,
+        None => 0,
+    }
 }
 
 /// How wide the texts of a column are.

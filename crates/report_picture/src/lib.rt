@@ -1,11 +1,12 @@
-//! Pictures of reports.
+//! Pictures of reports, and traces of them.
 //!
 //! What is drawn:
 //!
 //! - `picture`: a picture, its columns, its lines and its marks.
 //! - `looks`: how marks look.
-//! - `columns`: which coroutines have a column.
-//! - `placed`: the lines, each where it stands.
+//! - `columns`: what is asked for, and which coroutines have a column.
+//! - `line_words`: the words of a line, and which lines are bookkeeping of Jobs.
+//! - `placed`: the lines, each in its row.
 //! - `drawing`: the picture of a report.
 //!
 //! In which order:
@@ -19,20 +20,27 @@
 //! - `arranged`: the lines in an order that their causes allow, and else in that of the report.
 //! - `targets`: whom a line concerns.
 //!
-//! What stands round the lines:
+//! What is round the lines:
 //!
-//! - `layout`: where rows, columns and texts stand.
+//! - `layout`: where rows, columns and texts are.
 //! - `sheet`: what the marks are made of.
 //! - `marks`: marks, added one by one.
 //! - `filled`: vectors of one value.
 //! - `lives`: the lives of the coroutines, and their waits.
-//! - `arrows`: the ways of elements and of cancellations.
+//! - `arrows`: the arrows of elements and of cancellations, and from what brought a line about.
+//! - `lanes`: where arrows go down.
+//! - `fates`: the ends of the elements that were not received.
 //! - `frame`: the legend, and the feet of the columns.
 //!
 //! How it is written:
 //!
 //! - `document`: as an SVG document.
 //! - `diagram`: as a sequence diagram.
+//!
+//! Without a picture:
+//!
+//! - `trace`: the trace of a report.
+//! - `events`: its text, in the trace event format.
 #![tactic(auto)]
 
 mod arranged;
@@ -42,9 +50,13 @@ mod columns;
 mod diagram;
 mod document;
 mod drawing;
+mod events;
+mod fates;
 mod filled;
 mod frame;
+mod lanes;
 mod layout;
+mod line_words;
 mod lives;
 mod looks;
 mod marks;
@@ -57,11 +69,14 @@ mod sheet;
 mod sources;
 mod tables;
 mod targets;
+mod trace;
 
 pub use columns::Wanted;
 pub use diagram::mermaid;
 pub use document::svg;
 pub use drawing::{Drawing, draw};
-pub use looks::{Look, State};
-pub use picture::{Column, Drawn, Mark, Picture, Way};
+pub use events::trace_text;
+pub use looks::{Look, Shade, State};
+pub use picture::{Column, Drawn, Lost, Mark, Picture, Spot, Way};
 pub use sources::{Place, Sources};
+pub use trace::{Event, Happening, Moment, Trace, Tracing, Track, trace_of};

@@ -8,32 +8,111 @@ use crate::notes::{Note, Verb};
 use crate::picture::{Mark, Way};
 use crate::sheet::Sheet;
 use std::alloc::{AllocError, Global};
+use std::collections::HashMap;
+
+/// How high the end of a life is.
+const END: u64 = 6;
 
 /// The stretch of a life that has begun, with the line that began it.
 #[derive(Clone, Copy)]
-struct Life {
-    state: State,
-    since: usize,
+pub(crate) struct Life {
+    pub(crate) state: State,
+    pub(crate) since: usize,
+}
+
+/// A stretch of the Job of a scope: the line that attached it, its column, and the line at which it ends.
+#[derive(Clone, Copy)]
+struct Stretch {
+    attach: usize,
+    column: usize,
+    life: Life,
+    until: usize,
 }
 
 /// Whether a Job in the one state comes to the other.
-fn comes_to(old: State, new: State) -> bool {
+pub(crate) fn comes_to(old: State, new: State) -> bool {
     match (old, new) {
         (State::Cancelling, State::Completing | State::Active | State::Cancelling) => false,
         _ => true,
     }
 }
 
-fn life_at(lives: &[Option<Life>], column: usize) -> Option<Life> {
-    match lives.get(column) {
-        Some(life) => *life,
-        None => None,
-    }
+/// Whether a Job in this state has ended.
+pub(crate) fn is_end(state: State) -> bool {
+    matches!(state, State::Completed | State::Cancelled | State::Failed)
 }
 
-fn set_life(lives: &mut Vec<Option<Life>>, column: usize, life: Life) {
-    if let Some(place) = lives.get_mut(column) {
-        *place = Some(life);
+/// The lives so far: of each column the stretch that has begun and the last line, and the Jobs of scopes.
+#[derive(Drop)]
+struct Lives {
+    lives: Vec<Option<Life>>,
+    last: Vec<usize>,
+    scopes: HashMap<u32, Stretch>,
+    stretches: Vec<Stretch>,
+}
+
+impl Lives {
+    fn life(&self, column: usize) -> Option<Life> {
+        match self.lives.get(column) {
+            Some(life) => *life,
+            None => None,
+        }
+    }
+
+    fn set_life(&mut self, column: usize, life: Life) {
+        if let Some(place) = self.lives.get_mut(column) {
+            *place = Some(life);
+        }
+    }
+
+    /// The last line of a column.
+    fn last(&self, column: usize) -> usize {
+        match self.last.get(column) {
+            Some(last) => *last,
+            None => 0,
+        }
+    }
+
+    /// A line of the coroutine in a column, which is Active from its first line on, if nothing else was said of its Job.
+    fn see_line(&mut self, column: Option<usize>, since: usize) {
+        let Some(column) = column else {
+            return;
+        };
+        if self.life(column).is_none() {
+            let state = State::Active;
+            self.set_life(column, Life { state, since });
+        }
+        if let Some(place) = self.last.get_mut(column) {
+            *place = since;
+        }
+    }
+
+    /// The Job of a scope comes to a state, if it does.
+    fn change_scope(&mut self, row: u32, new: Life) -> Result<(), AllocError> {
+        let Some(old) = self.scopes.get(&row).copied() else {
+            return Ok(());
+        };
+        if !comes_to(old.life.state, new.state) {
+            return Ok(());
+        }
+        self.stretches.push(Stretch {
+            until: new.since,
+            ..old
+        })?;
+        self.scopes.insert(row, Stretch { life: new, ..old })?;
+        Ok(())
+    }
+
+    /// The Job of a scope begins in a column.
+    fn begin_scope(&mut self, column: usize, row: u32, life: Life) -> Result<(), AllocError> {
+        let begun = Stretch {
+            attach: life.since,
+            column,
+            life,
+            until: usize::MAX,
+        };
+        self.scopes.insert(row, begun)?;
+        Ok(())
     }
 }
 
@@ -44,105 +123,160 @@ fn push_stretch<'a>(
     life: Life,
     until: u64,
 ) -> Result<(), AllocError> {
-    if let Some(column) = sheet.columns.get(column)
-        && let Some(note) = sheet.note(life.since)
-    {
-        let from = sheet.y(life.since);
-        let size = (BAR, until.saturating_sub(from));
-        push_box(
-            marks,
-            (column.left, from),
-            size,
-            Look::Life(life.state),
-            note.text,
-        )
-    } else {
-        Ok(())
+    let from = sheet.y(life.since);
+    if until <= from {
+        return Ok(());
     }
-}
-
-/// Where the last stretch of a life ends.
-fn end_of(sheet: &Sheet<'_, '_>, last: Option<&usize>, life: Life) -> u64 {
-    match life.state {
-        State::Completed | State::Cancelled | State::Failed => {
-            let since = sheet.y(life.since);
-            let bottom = match last {
-                Some(number) => sheet.y(*number),
-                None => since,
-            };
-            since.max(bottom).saturating_add(HALF)
-        }
-        _ => sheet.y(sheet.notes.len()),
-    }
-}
-
-/// A line of the coroutine in a column, which is Active from its first line on, if nothing else was said of its Job.
-fn see_line(
-    lives: &mut Vec<Option<Life>>,
-    last: &mut Vec<usize>,
-    column: Option<usize>,
-    since: usize,
-) {
-    let Some(column) = column else {
-        return;
-    };
-    if life_at(lives.as_slice(), column).is_none() {
-        let state = State::Active;
-        set_life(lives, column, Life { state, since });
-    }
-    if let Some(place) = last.get_mut(column) {
-        *place = since;
-    }
+    let place = (sheet.left_of(column), from);
+    let size = (BAR, until - from);
+    push_box(
+        marks,
+        place,
+        size,
+        Look::Life(life.state),
+        sheet.text_at(life.since),
+    )
 }
 
 /// The Job of the coroutine in a column comes to a state, if it does.
 fn change<'a>(
     marks: &mut Vec<Mark<'a>>,
     sheet: &Sheet<'_, 'a>,
-    lives: &mut Vec<Option<Life>>,
+    lives: &mut Lives,
     column: usize,
     new: Life,
 ) -> Result<(), AllocError> {
-    if let Some(old) = life_at(lives.as_slice(), column) {
+    if let Some(old) = lives.life(column) {
         if !comes_to(old.state, new.state) {
             return Ok(());
         }
         push_stretch(marks, sheet, column, old, sheet.y(new.since))?;
     }
-    set_life(lives, column, new);
+    lives.set_life(column, new);
     Ok(())
+}
+
+/// What a line says of the Job of a scope.
+fn pass_scope(
+    lives: &mut Lives,
+    note: &Note,
+    column: Option<usize>,
+    new: Life,
+) -> Result<(), AllocError> {
+    if matches!(note.verb, Verb::Attach) {
+        if let Some(column) = column
+            && !note.launches()
+        {
+            lives.begin_scope(column, note.row, new)?;
+        }
+        Ok(())
+    } else {
+        lives.change_scope(note.row, new)
+    }
 }
 
 /// What a line says of the lives.
 fn pass_line<'a>(
     marks: &mut Vec<Mark<'a>>,
     sheet: &Sheet<'_, 'a>,
-    lives: &mut Vec<Option<Life>>,
-    last: &mut Vec<usize>,
+    lives: &mut Lives,
     since: usize,
 ) -> Result<(), AllocError> {
     let Some(note) = sheet.note(since) else {
         return Ok(());
     };
-    see_line(lives, last, sheet.column(note.tag), since);
+    let own = sheet.column(note.tag);
+    lives.see_line(own, since);
     match (note.state(), sheet.column(note.row)) {
         (Some(state), Some(column)) => change(marks, sheet, lives, column, Life { state, since }),
+        (Some(state), None) => pass_scope(lives, &note, own, Life { state, since }),
         _ => Ok(()),
     }
+}
+
+/// The end of a life that ended: a short stretch, and what its coroutine did then.
+fn push_end<'a>(
+    marks: &mut Vec<Mark<'a>>,
+    sheet: &Sheet<'_, 'a>,
+    column: usize,
+    life: Life,
+    last: usize,
+) -> Result<(), AllocError> {
+    let from = sheet.y(life.since);
+    let until = sheet.y(last).saturating_add(HALF).min(sheet.bottom());
+    let title = sheet.text_at(life.since);
+    let left = sheet.left_of(column);
+    if until > from {
+        let size = (2, until - from);
+        let place = (left.saturating_add(BAR / 2 - 1), from);
+        push_box(marks, place, size, Look::Past, title)?;
+    }
+    if sheet.is_seen(life.since) {
+        push_box(
+            marks,
+            (left, from),
+            (BAR, END),
+            Look::Life(life.state),
+            title,
+        )?;
+    }
+    Ok(())
 }
 
 /// The last stretches of the lives.
 fn push_last<'a>(
     marks: &mut Vec<Mark<'a>>,
     sheet: &Sheet<'_, 'a>,
-    lives: &[Option<Life>],
-    last: &[usize],
+    lives: &Lives,
 ) -> Result<(), AllocError> {
-    for (column, life) in lives.iter().enumerate() {
+    for (column, life) in lives.lives.iter().enumerate() {
         if let Some(life) = *life {
-            let until = end_of(sheet, last.get(column), life);
-            push_stretch(marks, sheet, column, life, until)?;
+            if is_end(life.state) {
+                push_end(marks, sheet, column, life, lives.last(column))?;
+            } else {
+                push_stretch(marks, sheet, column, life, sheet.bottom())?;
+            }
         }
+    }
+    Ok(())
+}
+
+/// A stretch of the Job of a scope: a thin bar in that of its coroutine.
+fn push_thin<'a>(
+    marks: &mut Vec<Mark<'a>>,
+    sheet: &Sheet<'_, 'a>,
+    one: &Stretch,
+) -> Result<(), AllocError> {
+    let from = sheet.y(one.life.since);
+    let until = sheet.y(one.until);
+    if until <= from {
+        return Ok(());
+    }
+    let left = sheet.left_of(one.column);
+    let height = until - from;
+    let title = sheet.text_at(one.life.since);
+    let place = (left.saturating_add(2), from);
+    push_box(marks, place, (6, height), Look::Paper, title)?;
+    let place = (left.saturating_add(3), from);
+    push_box(marks, place, (4, height), Look::Life(one.life.state), title)
+}
+
+/// The Jobs of scopes, those within others behind them.
+fn push_scopes<'a>(
+    marks: &mut Vec<Mark<'a>>,
+    sheet: &Sheet<'_, 'a>,
+    lives: &mut Lives,
+) -> Result<(), AllocError> {
+    for one in lives.scopes.values() {
+        if !is_end(one.life.state) {
+            lives.stretches.push(*one)?;
+        }
+    }
+    lives
+        .stretches
+        .sort_by_key(|one| (one.attach, one.life.since))?;
+    for one in lives.stretches.iter() {
+        push_thin(marks, sheet, one)?;
     }
     Ok(())
 }
@@ -154,19 +288,24 @@ pub(crate) fn push_lives<'a>(
     sheet: &Sheet<'_, 'a>,
     order: &[usize],
 ) -> Result<(), AllocError> {
-    let mut lives: Vec<Option<Life>> = filled(alloc, None, sheet.columns.len())?;
-    let mut last = filled(alloc, 0usize, sheet.columns.len())?;
+    let mut lives = Lives {
+        lives: filled(alloc, None, sheet.books.tags.len())?,
+        last: filled(alloc, 0usize, sheet.books.tags.len())?,
+        scopes: HashMap::new(alloc),
+        stretches: Vec::new(alloc),
+    };
     for number in order {
-        pass_line(marks, sheet, &mut lives, &mut last, *number)?;
+        pass_line(marks, sheet, &mut lives, *number)?;
     }
-    push_last(marks, sheet, lives.as_slice(), last.as_slice())
+    push_last(marks, sheet, &lives)?;
+    push_scopes(marks, sheet, &mut lives)
 }
 
 /// Where a wait ends.
 fn bottom_of<'a>(sheet: &Sheet<'_, 'a>, wait: &'a [u8]) -> u64 {
-    match sheet.tables.wait(wait).settles {
+    match sheet.books.tables.wait(wait).settles {
         Some(settle) => sheet.y(settle),
-        None => sheet.y(sheet.notes.len()),
+        None => sheet.bottom(),
     }
 }
 
@@ -179,12 +318,13 @@ fn push_wait<'a>(
     let Some(left) = sheet.left(note.tag) else {
         return Ok(());
     };
-    let way = Way::Down {
-        x: left.saturating_add(BAR / 2),
-        from: sheet.y(number),
-        to: bottom_of(sheet, note.wait),
-    };
-    push_path(marks, way, Look::Wait, note.text)
+    let from = sheet.y(number);
+    let to = bottom_of(sheet, note.wait);
+    if to <= from {
+        return Ok(());
+    }
+    let x = left.saturating_add(BAR / 2);
+    push_path(marks, Way::Down { x, from, to }, Look::Wait, note.text)
 }
 
 /// The waits, each from the line that began it to its settle.
@@ -193,12 +333,22 @@ pub(crate) fn push_waits<'a>(
     sheet: &Sheet<'_, 'a>,
 ) -> Result<(), AllocError> {
     let mut drawn: (u32, &'a [u8]) = (0, b"");
-    for (number, note) in sheet.notes.iter().enumerate() {
-        let begins = matches!(note.verb, Verb::Offer | Verb::Await);
-        if begins && !(drawn.0 == note.tag && drawn.1 == note.wait) {
+    for (number, note) in sheet.books.notes.iter().enumerate() {
+        if note.waits() && !(drawn.0 == note.tag && drawn.1 == note.wait) {
             drawn = (note.tag, note.wait);
             push_wait(marks, sheet, number, note)?;
         }
     }
     Ok(())
+}
+
+/// Whether the coroutine with this tag waits, and nothing ended its wait.
+pub(crate) fn hangs<'a>(sheet: &Sheet<'_, 'a>, tag: u32) -> bool {
+    match sheet.books.tables.row(tag).last {
+        Some(number) => match sheet.books.notes.get(number) {
+            Some(note) => note.waits() && sheet.books.tables.wait(note.wait).settles.is_none(),
+            None => false,
+        },
+        None => false,
+    }
 }

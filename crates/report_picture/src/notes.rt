@@ -195,17 +195,55 @@ impl Note<'_> {
             && (self.how == b"plain".as_slice() || self.how == b"lazy".as_slice())
     }
 
+    /// Whether it attaches a Job that is to be started.
+    pub(crate) fn is_lazy(&self) -> bool {
+        self.how == b"lazy".as_slice()
+    }
+
+    /// Whether it places a wait.
+    pub(crate) fn waits(&self) -> bool {
+        matches!(self.verb, Verb::Offer | Verb::Await)
+    }
+
+    /// Whether it tells that a Job was attached, started, ended or removed, or that its done channel was closed.
+    pub(crate) fn is_bookkeeping(&self) -> bool {
+        match self.verb {
+            Verb::Attach | Verb::Start | Verb::EndBody | Verb::Finish | Verb::Gone => true,
+            Verb::Close => self.channel.first() == Some(&b'@'),
+            _ => false,
+        }
+    }
+
+    /// The state in which it attaches a Job.
+    fn attached(&self) -> State {
+        if self.cancelled {
+            State::Cancelling
+        } else if self.is_lazy() {
+            State::New
+        } else {
+            State::Active
+        }
+    }
+
+    /// The state in which a Job ends by it.
+    fn finished(&self) -> State {
+        if self.how == b"completed".as_slice() {
+            State::Completed
+        } else if self.how == b"cancelled".as_slice() {
+            State::Cancelled
+        } else {
+            State::Failed
+        }
+    }
+
     /// The state that it brings the Job of its row to, if it does.
     pub(crate) fn state(&self) -> Option<State> {
         match self.verb {
-            Verb::Attach if self.cancelled => Some(State::Cancelling),
-            Verb::Attach if self.how == b"lazy".as_slice() => Some(State::New),
-            Verb::Attach | Verb::Start => Some(State::Active),
+            Verb::Attach => Some(self.attached()),
+            Verb::Start => Some(State::Active),
             Verb::EndBody => Some(State::Completing),
             Verb::Cancel => Some(State::Cancelling),
-            Verb::Finish if self.how == b"completed".as_slice() => Some(State::Completed),
-            Verb::Finish if self.how == b"cancelled".as_slice() => Some(State::Cancelled),
-            Verb::Finish => Some(State::Failed),
+            Verb::Finish => Some(self.finished()),
             _ => None,
         }
     }

@@ -35,25 +35,35 @@ pub enum Way {
         from: u64,
         to: u64,
     },
-    /// Down from a line to a level, across to a lane, down the lane, and across to another line.
+    /// An arrow: from below a line across to a lane, down the lane, and across to the bar of another line.
     Bent {
         x: u64,
-        y: u64,
         level: u64,
         lane: u64,
         to_y: u64,
         to_x: u64,
-    },
-    /// The point of an arrow to the right.
-    Point {
-        x: u64,
-        y: u64,
     },
     /// A cross.
     Cross {
         x: u64,
         y: u64,
     },
+}
+
+/// A place in the picture.
+#[derive(Clone, Copy)]
+pub struct Spot {
+    pub x: u64,
+    pub y: u64,
+}
+
+/// The end of an element that was not received.
+#[derive(Clone, Copy)]
+pub struct Lost<'a> {
+    /// Where its label is, if its end is in the picture.
+    pub at: Option<Spot>,
+    /// The line of the report that tells what became of it.
+    pub line: Line<'a>,
 }
 
 /// A mark. Its title is a line of the report, which a reader is shown that points at the mark.
@@ -86,8 +96,14 @@ pub enum Mark<'a> {
 pub struct Picture<'a> {
     pub width: u64,
     pub height: u64,
+    /// Where the heads of the columns begin from the top.
+    pub top: u32,
+    /// The row that is drawn first.
+    pub first: u32,
     pub columns: Vec<Column>,
-    /// What stands behind the lines.
+    /// What is drawn before the lines, and below them.
     pub marks: Vec<Mark<'a>>,
+    /// The elements that were not received.
+    pub lost: Vec<Lost<'a>>,
     pub lines: Vec<Drawn<'a>>,
 }

@@ -1,16 +1,17 @@
-//! The lines of a picture, each where it stands.
+//! The lines that are drawn, each in its row.
 
-ghost use Rattle.std.specs.Prelude.{◌≡◌, IfOk, IfSome, OnOk, [], ◌∷◌, ◌++◌, ◌<◌, filter, true};
+ghost use Rattle.std.specs.Prelude.{◌≡◌, IfOk, IfSome, ◌&&◌, not, OnOk, [], ◌∷◌, ◌++◌, ◌<◌, filter, true};
 ghost use Rattle.std.specs.Option.{option_copied};
 ghost use Rattle.report_reader.specs.Reading.{told, told_lines};
 ghost use Rattle.report_picture.specs.Order.{StandFrom};
-ghost use Rattle.report_picture.specs.Pictures.{EndsAbove, StandInColumns, StandInOrder, column_of, is_of, is_target, lines_in, place_from};
+ghost use Rattle.report_picture.specs.Pictures.{EndsAbove, StandInColumns, StandInOrder, column_of, is_drawn, is_left_out, is_of, is_target, is_within, lines_in, place_from};
 
-use crate::columns::is_among;
+use crate::columns::{Wanted, is_among};
+use crate::line_words::is_bookkeeping;
 use crate::picture::Drawn;
 use co_base::Memory;
 use report_reader::{Line, Said};
-use std::alloc::Global;
+use std::alloc::{AllocError, Global};
 
 /// The place of a tag among these.
 fn place_of(tag: u32, tags: &[u32]) -> Option<usize>
@@ -36,6 +37,26 @@ pub(crate) fn column_of(said: Said, tags: &[u32]) -> Option<usize>
         Said::Note(tag) => place_of(tag, tags),
         Said::Job(_) | Said::Element => None,
     }
+}
+
+/// Whether a line is left out.
+fn is_left_out(wanted: Wanted, line: &[u8]) -> bool
+    ensures { result ≡ is_left_out wanted line.now }
+{
+    wanted.only_channels && is_bookkeeping(line)
+}
+
+fn is_of(tags: &[u32], line: Line) -> bool
+    ensures { result ≡ is_of tags.now (told line.entry) }
+{
+    column_of(line.said, tags).is_some()
+}
+
+/// Whether a line is drawn: it is not left out, and its coroutine has a column.
+pub(crate) fn is_drawn(wanted: Wanted, tags: &[u32], line: Line) -> bool
+    ensures { result ≡ is_drawn wanted tags.now (told line.entry) }
+{
+    !is_left_out(wanted, line.text) && is_of(tags, line)
 }
 
 /// This row, or the next below this other, if that has the same column and is not above it.
@@ -89,20 +110,25 @@ struct Place {
     target: Option<u32>,
 }
 
-/// Adds a line, if it stands in the book of one of these coroutines.
+/// Adds a line, if it is drawn.
 #[tactic(auto, using(crate::proofs::Placing::columns_more, crate::proofs::Placing::order_more))]
 fn push_drawn<'a>(
     drawn: &mut Vec<Drawn<'a>>,
+    wanted: Wanted,
     tags: &[u32],
     place: Place,
     line: Line<'a>,
 ) -> Result<(), Memory>
     requires order { StandInOrder drawn.old.items }
     requires columns { StandInColumns tags.now drawn.old.items }
-    ensures once { OnOk result (lines_in drawn.new.items ≡ lines_in drawn.old.items ++ filter (is_of tags.now) (told line.entry ∷ [])) }
+    ensures once { OnOk result (lines_in drawn.new.items
+        ≡ lines_in drawn.old.items ++ filter (is_drawn wanted tags.now) (told line.entry ∷ [])) }
     ensures columns { OnOk result (StandInColumns tags.now drawn.new.items) }
     ensures order { OnOk result (StandInOrder drawn.new.items) }
 {
+    if is_left_out(wanted, line.text) {
+        return Ok(());
+    }
     let Some(column) = column_of(line.said, tags) else {
         return Ok(());
     };
@@ -119,15 +145,15 @@ fn push_drawn<'a>(
 
 /// The lines of the books of these coroutines, each in the row that is given for it; where that would not stand below the line before
 /// it in its book, in the next row.
-#[tactic(auto, using(crate::proofs::Placing::filter_more))]
 pub(crate) fn drawn_in<'a>(
     alloc: Global,
+    wanted: Wanted,
     tags: &[u32],
     lines: &[Line<'a>],
     rows: &[u32],
     targets: &[Option<u32>],
 ) -> Result<Vec<Drawn<'a>>, Memory>
-    ensures once { IfOk result (λ drawn. lines_in drawn.items ≡ filter (is_of tags.now) (told_lines lines.now)) }
+    ensures once { IfOk result (λ drawn. lines_in drawn.items ≡ filter (is_drawn wanted tags.now) (told_lines lines.now)) }
     ensures columns { IfOk result (λ drawn. StandInColumns tags.now drawn.items) }
     ensures order { IfOk result (λ drawn. StandInOrder drawn.items) }
 {
@@ -139,7 +165,7 @@ pub(crate) fn drawn_in<'a>(
             row: row_at(rows, i),
             target: target_at(targets, i),
         };
-        push_drawn(&mut drawn, tags, place, *line)?;
+        push_drawn(&mut drawn, wanted, tags, place, *line)?;
         i = i.saturating_add(1);
         rest = more;
     }
@@ -160,20 +186,25 @@ fn target_at(targets: &[Option<u32>], i: usize) -> Option<u32> {
     }
 }
 
-/// Adds a line one row below the last, if it stands in the book of one of these coroutines.
+/// Adds a line one row below the last, if it is drawn.
 #[tactic(auto, using(crate::proofs::Placing::columns_more, crate::proofs::Placing::rows_more))]
 fn push_next<'a>(
     drawn: &mut Vec<Drawn<'a>>,
+    wanted: Wanted,
     tags: &[u32],
     target: Option<u32>,
     line: Line<'a>,
 ) -> Result<(), Memory>
     requires rows { StandFrom 0 drawn.old.items }
     requires columns { StandInColumns tags.now drawn.old.items }
-    ensures once { OnOk result (lines_in drawn.new.items ≡ lines_in drawn.old.items ++ filter (is_of tags.now) (told line.entry ∷ [])) }
+    ensures once { OnOk result (lines_in drawn.new.items
+        ≡ lines_in drawn.old.items ++ filter (is_drawn wanted tags.now) (told line.entry ∷ [])) }
     ensures columns { OnOk result (StandInColumns tags.now drawn.new.items) }
     ensures rows { OnOk result (StandFrom 0 drawn.new.items) }
 {
+    if is_left_out(wanted, line.text) {
+        return Ok(());
+    }
     let Some(column) = column_of(line.said, tags) else {
         return Ok(());
     };
@@ -191,14 +222,15 @@ fn push_next<'a>(
 }
 
 /// The lines of the books of these coroutines, one below another as in the report.
-#[tactic(auto, using(crate::proofs::Placing::filter_more, crate::proofs::Placing::in_order_from))]
+#[tactic(auto, using(crate::proofs::Placing::in_order_from))]
 pub(crate) fn drawn_as_told<'a>(
     alloc: Global,
+    wanted: Wanted,
     tags: &[u32],
     lines: &[Line<'a>],
     targets: &[Option<u32>],
 ) -> Result<Vec<Drawn<'a>>, Memory>
-    ensures once { IfOk result (λ drawn. lines_in drawn.items ≡ filter (is_of tags.now) (told_lines lines.now)) }
+    ensures once { IfOk result (λ drawn. lines_in drawn.items ≡ filter (is_drawn wanted tags.now) (told_lines lines.now)) }
     ensures columns { IfOk result (λ drawn. StandInColumns tags.now drawn.items) }
     ensures order { IfOk result (λ drawn. StandInOrder drawn.items) }
     ensures rows { IfOk result (λ drawn. StandFrom 0 drawn.items) }
@@ -207,9 +239,49 @@ pub(crate) fn drawn_as_told<'a>(
     let mut rest = lines;
     let mut i = 0usize;
     while let [line, more @ ..] = rest {
-        push_next(&mut drawn, tags, target_at(targets, i), *line)?;
+        push_next(&mut drawn, wanted, tags, target_at(targets, i), *line)?;
         i = i.saturating_add(1);
         rest = more;
     }
     Ok(drawn)
+}
+
+/// Whether a row is between those asked for.
+fn is_within(wanted: Wanted, drawn: &Drawn) -> bool
+    ensures { result ≡ is_within wanted drawn.now }
+{
+    u64::from(wanted.from) <= u64::from(drawn.row) + 1
+        && (drawn.row < wanted.to || wanted.to == u32::MAX)
+}
+
+/// Adds a line, if its row is between those asked for.
+fn push_within<'a>(
+    part: &mut Vec<Drawn<'a>>,
+    wanted: Wanted,
+    drawn: &Drawn<'a>,
+) -> Result<(), AllocError>
+    ensures { OnOk result (part.new.items ≡ part.old.items ++ filter (is_within wanted) (drawn.now ∷ [])) }
+{
+    if is_within(wanted, drawn) {
+        part.push(*drawn)?;
+    }
+    Ok(())
+}
+
+/// The lines in the rows that are asked for.
+#[tactic(auto, using(crate::proofs::Placing::part_more))]
+pub(crate) fn part_of<'a>(
+    alloc: Global,
+    wanted: Wanted,
+    drawn: &[Drawn<'a>],
+) -> Result<Vec<Drawn<'a>>, AllocError>
+    ensures { IfOk result (λ part. part.items ≡ filter (is_within wanted) drawn.now) }
+{
+    let mut part: Vec<Drawn<'a>> = Vec::new(alloc);
+    let mut rest = drawn;
+    while let [line, more @ ..] = rest {
+        push_within(&mut part, wanted, line)?;
+        rest = more;
+    }
+    Ok(part)
 }

@@ -1,90 +1,105 @@
 //! What the marks are made of.
 
-use crate::layout::row_y;
+use crate::arranged::Books;
+use crate::layout::{HALF, row_y};
 use crate::notes::Note;
 use crate::picture::Column;
-use crate::tables::Tables;
 
-/// The lines of the books, what they say, and where they stand.
-#[derive(Drop)]
+/// The lines of the books, what they say, and where they are drawn.
+#[derive(Clone, Copy)]
 pub(crate) struct Sheet<'s, 'a> {
-    pub(crate) notes: &'s [Note<'a>],
-    pub(crate) tables: &'s Tables<'a>,
+    pub(crate) books: Books<'s, 'a>,
     pub(crate) columns: &'s [Column],
-    /// Of each line its row; of one that has no column that of the next line below.
+    /// Of each line its row; of one that is not drawn that of the next line below.
     pub(crate) rows: &'s [u32],
-    /// The row behind the last.
-    pub(crate) end: u32,
+    /// The row that is drawn first, and the one behind the last that is drawn.
+    pub(crate) first: u32,
+    pub(crate) until: u32,
+    /// Where the heads begin from the top.
+    pub(crate) top: u32,
 }
 
 impl<'s, 'a> Sheet<'s, 'a> {
     /// The number of a coroutine's column.
     pub(crate) fn column(&self, tag: u32) -> Option<usize> {
-        for (i, column) in self.columns.iter().enumerate() {
-            if column.tag == tag {
+        for (i, other) in self.books.tags.iter().enumerate() {
+            if *other == tag {
                 return Some(i);
             }
         }
         None
     }
 
-    /// Where the bar of a coroutine begins from the left.
-    pub(crate) fn left(&self, tag: u32) -> Option<u64> {
-        for column in self.columns {
-            if column.tag == tag {
-                return Some(column.left);
-            }
+    /// Where the bar of a column begins from the left.
+    pub(crate) fn left_of(&self, column: usize) -> u64 {
+        match self.columns.get(column) {
+            Some(column) => column.left,
+            None => 0,
         }
-        None
+    }
+
+    /// Where the bar of a coroutine begins from the left, if that has a column.
+    pub(crate) fn left(&self, tag: u32) -> Option<u64> {
+        match self.column(tag) {
+            Some(column) => Some(self.left_of(column)),
+            None => None,
+        }
     }
 
     pub(crate) fn note(&self, number: usize) -> Option<Note<'a>> {
-        match self.notes.get(number) {
+        match self.books.notes.get(number) {
             Some(note) => Some(*note),
             None => None,
         }
     }
 
-    /// The coroutine of a line.
-    pub(crate) fn tag_at(&self, number: usize) -> u32 {
-        match self.notes.get(number) {
-            Some(note) => note.tag,
-            None => 0,
-        }
-    }
-
-    /// Where the bar of a line's coroutine begins from the left, if that has a column.
-    pub(crate) fn left_at(&self, number: usize) -> Option<u64> {
-        match self.notes.get(number) {
-            Some(note) => self.left(note.tag),
-            None => None,
+    /// The column of a line, if it is drawn.
+    pub(crate) fn column_at(&self, number: usize) -> Option<usize> {
+        match self.books.notes.get(number) {
+            Some(note) if self.books.is_drawn(note) => self.column(note.tag),
+            _ => None,
         }
     }
 
     /// The text of a line.
     pub(crate) fn text_at(&self, number: usize) -> &'a [u8] {
-        match self.notes.get(number) {
+        match self.books.notes.get(number) {
             Some(note) => note.text,
             None => b"",
         }
     }
 
-    /// Where the middle of a line is from the top.
-    pub(crate) fn y(&self, number: usize) -> u64 {
+    /// The row of a line; behind the last line that of the picture's end.
+    pub(crate) fn row(&self, number: usize) -> u32 {
         match self.rows.get(number) {
-            Some(row) => row_y(*row),
-            None => row_y(self.end),
+            Some(row) => *row,
+            None => self.until,
         }
     }
 
-    /// The line in which the receiver goes on that stood at a place.
-    pub(crate) fn settled_at(&self, channel: &'a [u8], place: &'a [u8]) -> Option<usize> {
-        match self.tables.place(channel, place).awaits {
-            Some(number) => match self.note(number) {
-                Some(note) => self.tables.wait(note.wait).settles,
-                None => None,
-            },
-            None => None,
+    /// Whether the row of a line is drawn.
+    pub(crate) fn is_seen(&self, number: usize) -> bool {
+        let row = self.row(number);
+        self.first <= row && row < self.until
+    }
+
+    /// Where the rows begin from the top.
+    pub(crate) fn edge(&self) -> u64 {
+        row_y(self.top, 0).saturating_sub(HALF)
+    }
+
+    /// Where the row behind the last has its middle.
+    pub(crate) fn bottom(&self) -> u64 {
+        row_y(self.top, self.until.saturating_sub(self.first))
+    }
+
+    /// Where the middle of a line's row is from the top; the edge of the rows, if its row is not drawn.
+    pub(crate) fn y(&self, number: usize) -> u64 {
+        let row = self.row(number);
+        if row < self.first {
+            self.edge()
+        } else {
+            row_y(self.top, row.min(self.until).saturating_sub(self.first))
         }
     }
 }

@@ -2,11 +2,13 @@
 
 ghost use Rattle.std.specs.Prelude.{◌≡◌, option_map, slice_get};
 ghost use Rattle.report_reader.specs.Reading.{told, told_lines};
-ghost use Rattle.report_picture.specs.Order.{above_row, agree, agree_on_place, all_stand_below, attaches, brings, cancels, is_cancelling, is_resolving, line_above, outside, places, resolves, stands_below, tells, text_if, text_or, word};
+ghost use Rattle.report_picture.specs.Order.{above_row, agree, agree_on_place, all_stand_below, attaches, brings, cancels, is_cancelling, is_resolving, line_above, outside, places, resolves, stands_below, text_if, text_or};
 
+use crate::columns::Wanted;
+use crate::line_words::{tells, word};
 use crate::picture::Drawn;
-use crate::placed::column_of;
-use report_reader::{Line, cut_at};
+use crate::placed::is_drawn;
+use report_reader::Line;
 
 /// Where a line stands.
 #[derive(Clone, Copy)]
@@ -32,32 +34,7 @@ pub struct Sources {
     pub cancel: Place,
 }
 
-// ---- words
-
-/// The word of a line with this number, counted from 0; empty behind the last.
-fn word(number: usize, line: &[u8]) -> &[u8]
-    ensures { result.now ≡ word number line.now }
-{
-    let mut rest = line;
-    let mut left = number;
-    loop {
-        let (first, more) = cut_at(b' ', rest);
-        if left == 0 {
-            return first;
-        }
-        let Some(next) = more else {
-            return b"";
-        };
-        left -= 1;
-        rest = next;
-    }
-}
-
-fn tells(verb: &[u8], line: &[u8]) -> bool
-    ensures { result ≡ tells verb.now line.now }
-{
-    word(1, line) == verb
-}
+// ---- what two lines share
 
 fn agree(m: usize, line: &[u8], n: usize, other: &[u8]) -> bool
     ensures { result ≡ agree m line.now n other.now }
@@ -145,11 +122,11 @@ fn above_row<'a>(row: u32, drawn: Option<Drawn<'a>>) -> &'a [u8]
     }
 }
 
-fn outside<'a>(tags: &[u32], line: Option<Line<'a>>) -> &'a [u8]
-    ensures { result.now ≡ outside tags.now (option_map told line.entry) }
+fn outside<'a>(wanted: Wanted, tags: &[u32], line: Option<Line<'a>>) -> &'a [u8]
+    ensures { result.now ≡ outside wanted tags.now (option_map told line.entry) }
 {
     match line {
-        Some(line) => text_if(column_of(line.said, tags).is_none(), line.text),
+        Some(line) => text_if(!is_drawn(wanted, tags, line), line.text),
         None => b"",
     }
 }
@@ -169,49 +146,52 @@ fn text_or<'a>(line: Option<Line<'a>>) -> &'a [u8]
     }
 }
 
-/// The line at a place, if it stands above this row or outside the picture; else an empty one.
+/// The line at a place, if it is drawn above this row or not drawn; else an empty one.
 fn line_above<'a>(
+    wanted: Wanted,
     tags: &[u32],
     lines: &[Line<'a>],
     drawn: &[Drawn<'a>],
     row: u32,
     place: Place,
 ) -> &'a [u8]
-    ensures { result.now ≡ line_above tags.now (told_lines lines.now) drawn.now row place }
+    ensures { result.now ≡ line_above wanted tags.now (told_lines lines.now) drawn.now row place }
 {
     match place {
         Place::InPicture(number) => above_row(row, drawn_at(drawn, number)),
-        Place::InReport(number) => outside(tags, line_at(lines, number)),
+        Place::InReport(number) => outside(wanted, tags, line_at(lines, number)),
     }
 }
 
 fn stands_below<'a>(
+    wanted: Wanted,
     tags: &[u32],
     lines: &[Line<'a>],
     drawn: &[Drawn<'a>],
     line: Drawn<'a>,
     sources: Sources,
 ) -> bool
-    ensures { result ≡ stands_below tags.now (told_lines lines.now) drawn.now line.entry sources }
+    ensures { result ≡ stands_below wanted tags.now (told_lines lines.now) drawn.now line.entry sources }
 {
     let text = line.line.text;
-    let attach = line_above(tags, lines, drawn, line.row, sources.attach);
-    let bring = line_above(tags, lines, drawn, line.row, sources.bring);
+    let attach = line_above(wanted, tags, lines, drawn, line.row, sources.attach);
+    let bring = line_above(wanted, tags, lines, drawn, line.row, sources.bring);
     let placing = text_or(line_at(lines, sources.placing));
-    let resolve = line_above(tags, lines, drawn, line.row, sources.resolve);
-    let cancel = line_above(tags, lines, drawn, line.row, sources.cancel);
+    let resolve = line_above(wanted, tags, lines, drawn, line.row, sources.resolve);
+    let cancel = line_above(wanted, tags, lines, drawn, line.row, sources.cancel);
     attaches(attach, text)
         && (brings(bring, text) && (resolves(placing, resolve, text) && cancels(cancel, text)))
 }
 
 /// Whether each line of the picture stands below what it presupposes, which stands where its sources say.
 pub(crate) fn all_stand_below<'a>(
+    wanted: Wanted,
     tags: &[u32],
     lines: &[Line<'a>],
     drawn: &[Drawn<'a>],
     sources: &[Sources],
 ) -> bool
-    ensures { result ≡ all_stand_below tags.now (told_lines lines.now) drawn.now drawn.now sources.now }
+    ensures { result ≡ all_stand_below wanted tags.now (told_lines lines.now) drawn.now drawn.now sources.now }
 {
     let mut rest = drawn;
     let mut places = sources;
@@ -219,7 +199,7 @@ pub(crate) fn all_stand_below<'a>(
         let [place, others @ ..] = places else {
             return false;
         };
-        if !stands_below(tags, lines, drawn, *line, *place) {
+        if !stands_below(wanted, tags, lines, drawn, *line, *place) {
             return false;
         }
         rest = more;

@@ -46,8 +46,9 @@ pub(crate) struct OfRow {
     pub(crate) starts: Option<usize>,
     pub(crate) cancels: Option<usize>,
     pub(crate) finishes: Option<usize>,
-    /// The first line of the coroutine with this tag.
+    /// The first and the last line of the coroutine with this tag.
     pub(crate) first: Option<usize>,
+    pub(crate) last: Option<usize>,
 }
 
 const NO_ROW: OfRow = OfRow {
@@ -57,68 +58,59 @@ const NO_ROW: OfRow = OfRow {
     cancels: None,
     finishes: None,
     first: None,
+    last: None,
 };
 
 // ---- with one line more
 
-fn of_place(of: OfPlace, number: usize, verb: Verb) -> OfPlace {
-    let here = Some(number);
-    match verb {
-        Verb::Hand | Verb::Put | Verb::Offer => OfPlace { brings: here, ..of },
-        Verb::Await => OfPlace { awaits: here, ..of },
-        Verb::Admit => OfPlace { admits: here, ..of },
-        Verb::Take => OfPlace { takes: here, ..of },
-        Verb::Drop | Verb::Spurn | Verb::Drain => OfPlace {
-            gives_up: here,
-            ..of
-        },
-        Verb::WakeClosed => OfPlace { wakes: here, ..of },
-        _ => of,
+impl OfPlace {
+    fn see(&mut self, number: usize, verb: Verb) {
+        let here = Some(number);
+        match verb {
+            Verb::Hand | Verb::Put | Verb::Offer => self.brings = here,
+            Verb::Await => self.awaits = here,
+            Verb::Admit => self.admits = here,
+            Verb::Take => self.takes = here,
+            Verb::Drop | Verb::Spurn | Verb::Drain => self.gives_up = here,
+            Verb::WakeClosed => self.wakes = here,
+            _ => {}
+        }
     }
 }
 
-fn of_wait(of: OfWait, number: usize, verb: Verb) -> OfWait {
-    match verb {
-        Verb::Settle => OfWait {
-            settles: Some(number),
-            ..of
-        },
-        _ => OfWait {
-            late: Some(number),
-            ..of
-        },
+impl OfWait {
+    fn see(&mut self, number: usize, verb: Verb) {
+        match verb {
+            Verb::Settle => self.settles = Some(number),
+            _ => self.late = Some(number),
+        }
     }
 }
 
-fn of_row(of: OfRow, number: usize, note: &Note<'_>) -> OfRow {
-    let here = Some(number);
-    match note.verb {
-        Verb::Attach => OfRow {
-            attaches: here,
-            parent: Some(note.other),
-            cancels: if note.cancelled { here } else { of.cancels },
-            ..of
-        },
-        Verb::Start => OfRow { starts: here, ..of },
-        Verb::Cancel => OfRow {
-            cancels: here,
-            ..of
-        },
-        Verb::Finish => OfRow {
-            finishes: here,
-            ..of
-        },
-        _ => of,
+impl OfRow {
+    fn see(&mut self, number: usize, note: &Note<'_>) {
+        let here = Some(number);
+        match note.verb {
+            Verb::Attach => {
+                self.attaches = here;
+                self.parent = Some(note.other);
+                if note.cancelled {
+                    self.cancels = here;
+                }
+            }
+            Verb::Start => self.starts = here,
+            Verb::Cancel => self.cancels = here,
+            Verb::Finish => self.finishes = here,
+            _ => {}
+        }
     }
-}
 
-fn of_first(of: OfRow, number: usize) -> OfRow {
-    match of.first {
-        Some(_) => of,
-        None => OfRow {
-            first: Some(number),
-            ..of
-        },
+    /// A line of the coroutine with this tag.
+    fn see_own(&mut self, number: usize) {
+        if self.first.is_none() {
+            self.first = Some(number);
+        }
+        self.last = Some(number);
     }
 }
 
@@ -169,24 +161,35 @@ impl<'a> Tables<'a> {
     }
 
     fn add_place(&mut self, number: usize, note: &Note<'a>) -> Result<(), AllocError> {
-        let of = of_place(self.place(note.channel, note.place), number, note.verb);
+        let mut of = self.place(note.channel, note.place);
+        of.see(number, note.verb);
         self.places.insert((note.channel, note.place), of)?;
         Ok(())
     }
 
     fn add_wait(&mut self, number: usize, note: &Note<'a>) -> Result<(), AllocError> {
-        let of = of_wait(self.wait(note.wait), number, note.verb);
+        let mut of = self.wait(note.wait);
+        of.see(number, note.verb);
         self.waits.insert(note.wait, of)?;
         Ok(())
     }
 
-    fn set_row(&mut self, row: u32, of: OfRow) -> Result<(), AllocError> {
-        self.rows.insert(row, of)?;
+    fn add_row(&mut self, number: usize, note: &Note<'a>) -> Result<(), AllocError> {
+        let mut of = self.row(note.row);
+        of.see(number, note);
+        self.rows.insert(note.row, of)?;
+        Ok(())
+    }
+
+    fn add_own(&mut self, number: usize, tag: u32) -> Result<(), AllocError> {
+        let mut of = self.row(tag);
+        of.see_own(number);
+        self.rows.insert(tag, of)?;
         Ok(())
     }
 
     fn add(&mut self, number: usize, note: &Note<'a>) -> Result<(), AllocError> {
-        self.set_row(note.tag, of_first(self.row(note.tag), number))?;
+        self.add_own(number, note.tag)?;
         match note.verb {
             Verb::Hand
             | Verb::Put
@@ -203,9 +206,7 @@ impl<'a> Tables<'a> {
                 self.closes.insert(note.channel, number)?;
                 Ok(())
             }
-            Verb::Attach | Verb::Start | Verb::Cancel | Verb::Finish => {
-                self.set_row(note.row, of_row(self.row(note.row), number, note))
-            }
+            Verb::Attach | Verb::Start | Verb::Cancel | Verb::Finish => self.add_row(number, note),
             _ => Ok(()),
         }
     }

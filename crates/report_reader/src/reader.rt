@@ -85,7 +85,7 @@ fn read_numbered<'a>(
 
 /// Reads a report: its lines, each with what it is; or the number of the first line of the text that is none.
 pub fn read<'a>(alloc: Global, bytes: &'a [u8]) -> Result<Vec<Line<'a>>, NoReport>
-    requires { length bytes.now ≤ 1048576 }
+    requires { length bytes.now ≤ 67108864 }
     ensures { Gives result (report_of bytes.now) }
 {
     let mut reading = Reading {

@@ -1,19 +1,22 @@
 -- What each outcome of a call says of the words, of what was read and of what was written.
-use Rattle.std.specs.Prelude.{◌≡◌, ℕ, Bool, true, false, List, Option, Some, None, Result, Ok, Err, String, map, string_bytes, option_and_then}
+use Rattle.std.specs.Prelude.{◌≡◌, ℕ, Bool, true, false, List, length, nat_lt, Option, Some, None, Result, Ok, Err, String, map, string_bytes, option_and_then}
 use Rattle.std.specs.Global.{Global}
 use Rattle.std.specs.Vec.Iter.{into_iter_items}
 use Rattle.std.specs.declared.vec.IntoIter.{IntoIter}
 use lib.Chars.{codes}
 use Rattle.co_base.specs.Streams.{Rose, Gave, GaveJust, IsDrained, Took, TookPart}
 use Rattle.report_reader.specs.Reports.{Line, report_of}
-use Rattle.report_picture.specs.Pictures.{Shows, all_have_columns, tags_of}
-use Rattle.report_picture.specs.Order.{AreOrdered}
+use Rattle.report_picture.specs.declared.columns.Wanted.{Wanted}
+use Rattle.report_picture.specs.Pictures.{all_have_columns, tags_of}
+use Rattle.report_picture.specs.Shown.{Shows}
 use Rattle.report_picture.specs.Elements.{svg_text}
 use Rattle.report_picture.specs.WellFormed.{IsDocument}
 use Rattle.report_picture.specs.Diagrams.{IsDiagramOf}
+use Rattle.report_picture.specs.Traces.{IsJson, Tells, trace_text}
+use Rattle.report_picture.specs.declared.trace.Trace.{Trace}
 use Rattle.report_picture.specs.declared.picture.Picture.{Picture}
 use Rattle.run_picture.specs.declared.words.Format.{Format}
-use Rattle.run_picture.specs.declared.words.Format.TheVariants.{Svg, Mermaid}
+use Rattle.run_picture.specs.declared.words.Format.TheVariants as formats
 use Rattle.run_picture.specs.declared.words.Asked.{Asked}
 use Rattle.run_picture.specs.declared.top.Answer.{Answer}
 use Rattle.run_picture.specs.declared.outcome.Shown.{Shown}
@@ -40,6 +43,11 @@ message_of_shown true false = Some messages.NotAll
 message_of_shown false true = Some messages.NoOrder
 message_of_shown false false = Some messages.NoOrderNotAll
 
+-- standard error says that a trace serves better
+abbrev pub is_large : Outcome → Bool
+is_large (outcomes.Drawn shown) = shown.large
+is_large other = false
+
 -- what standard error says
 abbrev pub message_of : Outcome → Option Message
 message_of (outcomes.Drawn shown) = message_of_shown shown.in_order shown.all
@@ -50,24 +58,44 @@ message_of outcomes.ReadFault = Some messages.ReadFault
 message_of outcomes.WriteFault = Some messages.WriteFault
 message_of outcomes.NoMemory = Some messages.NoMemory
 
--- the text is the picture in this format: a well-formed document, or a diagram
+-- the text is the picture in this format: a well-formed document, or a diagram; a trace is of no picture
 abbrev pub IsWrittenAs : Format → Picture → List ℕ → Type 0
-IsWrittenAs Svg picture text = (text ≡ svg_text picture) × IsDocument (codes "svg") text
-IsWrittenAs Mermaid picture text = IsDiagramOf picture text
+IsWrittenAs formats.Svg picture text = (text ≡ svg_text picture) × IsDocument (codes "svg") text
+IsWrittenAs formats.Mermaid picture text = IsDiagramOf picture text
+IsWrittenAs formats.Trace picture text = ⊥
 
--- the text is a picture of a report with these lines, as it is asked for, and shows so much of it
-pub record PicturesLines (asked : Asked) (shown : Shown) (lines : List Line) (text : List ℕ) : Type 0 where
+-- the text is a picture of a report with these lines, in this format, of what is wanted, and shows so much of it
+pub record Depicts (format : Format) (wanted : Wanted) (shown : Shown) (lines : List Line) (text : List ℕ) : Type 0 where
   pub picture : Picture
-  pub shows : Shows asked.wanted lines picture
-  pub ordered : AreOrdered shown.in_order (tags_of asked.wanted lines) lines picture.lines.items
-  pub all : shown.all ≡ all_have_columns asked.wanted (tags_of asked.wanted lines) lines
-  pub is_text : IsWrittenAs asked.format picture text
+  pub shows : Shows shown.in_order wanted lines picture
+  pub all : shown.all ≡ all_have_columns wanted (tags_of wanted lines) lines
+  pub large : shown.large ≡ nat_lt 2000 (length picture.lines.items)
+  pub is_text : IsWrittenAs format picture text
+
+-- the text is a trace of a report with these lines, of what is wanted
+pub record Traces (wanted : Wanted) (shown : Shown) (lines : List Line) (text : List ℕ) : Type 0 where
+  pub trace : Trace
+  pub tells : Tells wanted lines trace
+  pub is_text : text ≡ trace_text trace
+  pub is_json : IsJson text
+  pub all : shown.all ≡ true
+  pub large : shown.large ≡ false
+
+-- the text shows a report with these lines, in this format
+abbrev pub ShowsAs : Format → Wanted → Shown → List Line → List ℕ → Type 0
+ShowsAs formats.Svg wanted shown lines text = Depicts formats.Svg wanted shown lines text
+ShowsAs formats.Mermaid wanted shown lines text = Depicts formats.Mermaid wanted shown lines text
+ShowsAs formats.Trace wanted shown lines text = Traces wanted shown lines text
+
+-- the same, as it is asked for
+abbrev pub ShowsLines : Asked → Shown → List Line → List ℕ → Type 0
+ShowsLines asked shown lines text = ShowsAs asked.format asked.wanted shown lines text
 
 -- the input is a report, and the text a picture of it, as it is asked for
 pub record Pictures (asked : Asked) (shown : Shown) (input text : List ℕ) : Type 0 where
   pub lines : List Line
   pub is_report : report_of input ≡ Ok lines
-  pub pictured : PicturesLines asked shown lines text
+  pub pictured : ShowsLines asked shown lines text
 
 -- the bytes of a source or a sink, and how often it failed
 pub record Stream : Type 0 where
@@ -117,7 +145,7 @@ abbrev pub Fails : Outcome → Option Asked → Stream → Stream → Type 0
 Fails (outcomes.Drawn shown) asked source source' = ⊥
 Fails outcomes.Refused asked source source' = (asked ≡ None) × (source ≡ source')
 Fails (outcomes.NoReport line) asked source source' = IsAsked asked × RefusesAt line source source'
-Fails outcomes.TooLong asked source source' = IsAsked asked × GaveJust 1048577 source.bytes source'.bytes
+Fails outcomes.TooLong asked source source' = IsAsked asked × GaveJust 67108865 source.bytes source'.bytes
 Fails outcomes.ReadFault asked source source' = IsAsked asked × Rose source.faults source'.faults
 Fails outcomes.WriteFault asked source source' = ⊥
 Fails outcomes.NoMemory asked source source' = Unit {0}

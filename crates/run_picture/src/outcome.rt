@@ -2,7 +2,7 @@
 
 ghost use Rattle.std.specs.Prelude.{◌≡◌};
 ghost use Rattle.std.specs.Process.{exit_status};
-ghost use Rattle.run_picture.specs.Outcomes.{message_of, message_of_shown, number_of};
+ghost use Rattle.run_picture.specs.Outcomes.{is_large, message_of, message_of_shown, number_of};
 
 use std::process::ExitCode;
 use thiserror::Error;
@@ -14,6 +14,8 @@ pub struct Shown {
     pub in_order: bool,
     /// Each coroutine that was asked for and has a line has a column.
     pub all: bool,
+    /// It has more than 2,000 lines.
+    pub large: bool,
 }
 
 /// What a call comes to.
@@ -44,11 +46,11 @@ pub enum Message {
     NotAll,
     #[error("no order was found that fits the lines: they stand as in the report; and only the first 64 coroutines are drawn")]
     NoOrderNotAll,
-    #[error("usage: run_picture [--format svg|mermaid] [--coroutines A-B]")]
+    #[error("usage: run_picture [--format svg|mermaid|trace] [--coroutines A-B] [--only channels] [--lines A-B]")]
     Usage,
     #[error("line {0} is no line of a report")]
     NoReport(u32),
-    #[error("a report has at most 1048576 bytes")]
+    #[error("a report has at most 67108864 bytes")]
     TooLong,
     #[error("read fault")]
     ReadFault,
@@ -57,6 +59,11 @@ pub enum Message {
     #[error("out of memory")]
     NoMemory,
 }
+
+/// What standard error says of a picture that was written, which a trace would show better.
+#[derive(Clone, Copy, Debug, Error)]
+#[error("a picture of more than 2000 lines: --format trace serves better, or --only channels and --lines A-B show less")]
+pub struct Hint;
 
 impl Outcome {
     /// The number with which the process ends.
@@ -86,6 +93,16 @@ impl Outcome {
             Outcome::WriteFault => Some(Message::WriteFault),
             Outcome::NoMemory => Some(Message::NoMemory),
         }
+    }
+}
+
+/// Whether standard error says that a trace serves better.
+pub fn is_large(outcome: Outcome) -> bool
+    ensures { result ≡ is_large outcome }
+{
+    match outcome {
+        Outcome::Drawn(shown) => shown.large,
+        _ => false,
     }
 }
 

@@ -3,10 +3,10 @@
 ghost use Rattle.std.specs.Prelude.{◌≡◌, IfOk, option_map};
 ghost use Rattle.std.specs.Process.{exit_status};
 ghost use Rattle.std.specs.Vec.Iter.{into_iter_items};
-ghost use Rattle.run_picture.specs.Outcomes.{Means, arguments_given, asked_for, message_of, number_of, stream};
+ghost use Rattle.run_picture.specs.Outcomes.{Means, arguments_given, asked_for, is_large, message_of, number_of, stream};
 ghost use Rattle.run_picture.specs.declared.outcome.Outcome.{Outcome as Comes};
 
-use crate::outcome::{Message, Outcome, exit_code};
+use crate::outcome::{Message, Outcome, exit_code, is_large};
 use crate::top::picture_main;
 use co_base::{Memory, Sink, Source};
 use std::alloc::Global;
@@ -19,6 +19,8 @@ use std::process::ExitCode;
 pub struct Left {
     pub code: ExitCode,
     pub message: Option<Message>,
+    /// It says that a trace serves better.
+    pub hint: bool,
 }
 
 /// Does what the arguments ask for, as `picture_main`, and answers what the process leaves. An argument that is no text is none that
@@ -30,7 +32,7 @@ pub fn process<S: Source, K: Sink>(
     sink: &mut K,
 ) -> Left
     ensures { (outcome : Comes) × (exit_status result.code ≡ number_of outcome) × (result.message ≡ message_of outcome)
-        × Means outcome (asked_for arguments) (stream (S.left source.old) (S.faults source.old))
+        × (result.hint ≡ is_large outcome) × Means outcome (asked_for arguments) (stream (S.left source.old) (S.faults source.old))
         (stream (S.left source.new) (S.faults source.new)) (stream (K.held sink.old) (K.faults sink.old))
         (stream (K.held sink.new) (K.faults sink.new)) }
 {
@@ -45,10 +47,12 @@ pub fn process<S: Source, K: Sink>(
 fn leaving(outcome: Outcome) -> Left
     ensures code { exit_status result.code ≡ number_of outcome }
     ensures message { result.message ≡ message_of outcome }
+    ensures hint { result.hint ≡ is_large outcome }
 {
     Left {
         code: exit_code(outcome.number()),
         message: outcome.message(),
+        hint: is_large(outcome),
     }
 }
 

@@ -1,16 +1,18 @@
 //! The whole call, over any source and sink.
 
-ghost use Rattle.std.specs.Prelude.{◌≤◌, IfOk, Some, length, map, string_bytes};
+ghost use Rattle.std.specs.Prelude.{◌≡◌, ◌≤◌, nat_lt, IfOk, Some, length, map, string_bytes};
 ghost use Rattle.report_reader.specs.Reading.{told_lines};
 ghost use Rattle.run_picture.specs.Words.{asked_of};
-ghost use Rattle.run_picture.specs.Outcomes.{IsMade, IsMadeOf, IsWritten, IsWrittenAs, Means, PicturesLines, stream};
+ghost use Rattle.run_picture.specs.Outcomes.{IsMade, IsMadeOf, Depicts, IsWritten, Means, ShowsLines, Traces, stream};
+ghost use Rattle.run_picture.specs.declared.words.Format.TheVariants.{Mermaid, Svg};
 
 use crate::outcome::{Outcome, Shown};
+use crate::reading::read_report;
 use crate::words::{Asked, Format, asked_of};
-use co_base::{Memory, ReadError, Sink, Source, read_script, write_all};
-use report_picture::{Picture, draw, mermaid, svg};
+use co_base::{Memory, ReadError, Sink, Source, write_all};
+use report_picture::{Drawing, Wanted, draw, mermaid, svg, trace_of, trace_text};
 use report_reader::{Line, NoReport, read};
-use std::alloc::{AllocError, Global};
+use std::alloc::Global;
 
 /// A picture as a text, and how far it shows the report.
 #[derive(Drop)]
@@ -70,7 +72,7 @@ fn read_answer<S: Source>(alloc: Global, asked: Asked, source: &mut S) -> Result
     ensures { IsMade result (Some asked) (stream (S.left source.old) (S.faults source.old))
         (stream (S.left source.new) (S.faults source.new)) }
 {
-    match read_script(alloc, source) {
+    match read_report(alloc, source) {
         Ok(bytes) => answer_of(alloc, asked, bytes.as_slice()),
         Err(ReadError::TooLong) => Err(Outcome::TooLong),
         Err(ReadError::ReadFault) => Err(Outcome::ReadFault),
@@ -80,7 +82,7 @@ fn read_answer<S: Source>(alloc: Global, asked: Asked, source: &mut S) -> Result
 
 /// Makes the picture of a text, if it is a report.
 fn answer_of(alloc: Global, asked: Asked, bytes: &[u8]) -> Result<Answer, Outcome>
-    requires { length bytes.now ≤ 1048576 }
+    requires { length bytes.now ≤ 67108864 }
     ensures { IsMadeOf asked bytes.now result }
 {
     match read(alloc, bytes) {
@@ -95,29 +97,58 @@ fn answer_of(alloc: Global, asked: Asked, bytes: &[u8]) -> Result<Answer, Outcom
 
 /// Makes the picture of a report with these lines.
 fn picture_of(alloc: Global, asked: Asked, lines: &[Line]) -> Result<Answer, Memory>
-    ensures { IfOk result (λ answer. PicturesLines asked answer.shown (told_lines lines.now) answer.text.items) }
+    ensures { IfOk result (λ answer. ShowsLines asked answer.shown (told_lines lines.now) answer.text.items) }
 {
-    let drawing = draw(alloc, asked.wanted, lines)?;
-    let text = text_of(alloc, asked.format, &drawing.picture)?;
-    let shown = Shown {
+    match asked.format {
+        Format::Svg => drawn(alloc, asked.wanted, lines),
+        Format::Mermaid => diagram(alloc, asked.wanted, lines),
+        Format::Trace => traced(alloc, asked.wanted, lines),
+    }
+}
+
+/// How far a picture shows the report.
+fn shown_by(drawing: &Drawing) -> Shown
+    ensures order { result.in_order ≡ drawing.now.in_order }
+    ensures all { result.all ≡ drawing.now.all }
+    ensures large { result.large ≡ nat_lt 2000 (length drawing.now.picture.lines.items) }
+{
+    Shown {
         in_order: drawing.in_order,
         all: drawing.all,
-    };
+        large: 2000 < drawing.picture.lines.len(),
+    }
+}
+
+/// A picture as an SVG document.
+fn drawn(alloc: Global, wanted: Wanted, lines: &[Line]) -> Result<Answer, Memory>
+    ensures { IfOk result (λ answer. Depicts Svg wanted answer.shown (told_lines lines.now) answer.text.items) }
+{
+    let drawing = draw(alloc, wanted, lines)?;
+    let text = svg(alloc, &drawing.picture)?;
+    let shown = shown_by(&drawing);
     Ok(Answer { shown, text })
 }
 
-/// The text of a picture.
-fn text_of(alloc: Global, format: Format, picture: &Picture) -> Result<Vec<u8>, AllocError>
-    ensures { IfOk result (λ text. IsWrittenAs format picture.now text.items) }
+/// A picture as a sequence diagram.
+fn diagram(alloc: Global, wanted: Wanted, lines: &[Line]) -> Result<Answer, Memory>
+    ensures { IfOk result (λ answer. Depicts Mermaid wanted answer.shown (told_lines lines.now) answer.text.items) }
 {
-    match format {
-        Format::Svg => {
-            let text = svg(alloc, picture)?;
-            Ok(text)
-        }
-        Format::Mermaid => {
-            let text = mermaid(alloc, picture)?;
-            Ok(text)
-        }
-    }
+    let drawing = draw(alloc, wanted, lines)?;
+    let text = mermaid(alloc, &drawing.picture)?;
+    let shown = shown_by(&drawing);
+    Ok(Answer { shown, text })
+}
+
+/// A trace.
+fn traced(alloc: Global, wanted: Wanted, lines: &[Line]) -> Result<Answer, Memory>
+    ensures { IfOk result (λ answer. Traces wanted answer.shown (told_lines lines.now) answer.text.items) }
+{
+    let tracing = trace_of(alloc, wanted, lines)?;
+    let text = trace_text(alloc, &tracing.trace)?;
+    let shown = Shown {
+        in_order: tracing.in_order,
+        all: true,
+        large: false,
+    };
+    Ok(Answer { shown, text })
 }

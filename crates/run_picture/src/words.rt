@@ -3,7 +3,7 @@
 ghost use Rattle.std.specs.Prelude.{◌≡◌, ◌≢◌, IfOk, Some, false, map, option_map, string_bytes, true};
 ghost use lib.Chars.{codes};
 ghost use Rattle.clap.specs.Words.{app_of, first_of, found_of, is_simple_and_free, rows_of, rule_of};
-ghost use Rattle.run_picture.specs.Words.{asked_of, format_of, matches_by, option, picture_line, range_between, range_of, wanted_of};
+ghost use Rattle.run_picture.specs.Words.{asked_by, asked_of, format_for, format_in, format_of, matches_by, only_of, option, picture_line, range_between, range_of, range_or, wanted_by};
 
 use clap::error::ErrorKind;
 use clap::{Arg, ArgMatches, Error};
@@ -17,6 +17,14 @@ use std::alloc::Global;
 pub enum Format {
     Svg,
     Mermaid,
+    Trace,
+}
+
+/// From the first number to the last.
+#[derive(Clone, Copy)]
+pub struct Range {
+    pub first: u32,
+    pub last: u32,
 }
 
 /// What a call asks for.
@@ -33,24 +41,54 @@ pub fn asked_of(alloc: Global, words: &[String]) -> Result<Option<Asked>, Memory
     let Some(matches) = matches_of(picture_line(alloc)?, words)? else {
         return Ok(None);
     };
-    let Some(format) = format_in(&matches) else {
-        return Ok(None);
+    Ok(asked_by(&matches))
+}
+
+/// What the values of the options ask for.
+fn asked_by(matches: &ArgMatches<'_>) -> Option<Asked>
+    ensures { result ≡ asked_by (rows_of (found_of matches.now)) }
+{
+    let Some(format) = format_in(matches) else {
+        return None;
     };
-    let Some(wanted) = wanted_in(&matches) else {
-        return Ok(None);
+    let Some(coroutines) = coroutines_in(matches) else {
+        return None;
     };
-    Ok(Some(Asked { format, wanted }))
+    let Some(only_channels) = only_in(matches) else {
+        return None;
+    };
+    let Some(lines) = lines_in(matches) else {
+        return None;
+    };
+    Some(Asked {
+        format,
+        wanted: wanted_by(coroutines, only_channels, lines),
+    })
+}
+
+fn wanted_by(coroutines: Range, only_channels: bool, lines: Range) -> Wanted
+    ensures { result ≡ wanted_by coroutines only_channels lines }
+{
+    Wanted {
+        first: coroutines.first,
+        last: coroutines.last,
+        only_channels,
+        from: lines.first,
+        to: lines.last,
+    }
 }
 
 // ---- the command line
 
-/// `run_picture [--format svg|mermaid] [--coroutines A-B]`.
+/// `run_picture [--format svg|mermaid|trace] [--coroutines A-B] [--only channels] [--lines A-B]`.
 fn picture_line<'a>(alloc: Global) -> Result<clap::Command<'a>, Memory>
     ensures { IfOk result (λ line. app_of line ≡ picture_line) }
 {
     let line = clap::Command::new(alloc, "run_picture")
         .arg(option(alloc, "format"))?
-        .arg(option(alloc, "coroutines"))?;
+        .arg(option(alloc, "coroutines"))?
+        .arg(option(alloc, "only"))?
+        .arg(option(alloc, "lines"))?;
     Ok(line)
 }
 
@@ -93,9 +131,18 @@ fn is_memory(kind: ErrorKind) -> bool
 // ---- the values
 
 fn format_in(matches: &ArgMatches<'_>) -> Option<Format>
-    ensures { result ≡ format_of (first_of (codes "format") (rows_of (found_of matches.now))) }
+    ensures { result ≡ format_in (rows_of (found_of matches.now)) }
 {
-    format_of(matches.get_str("format"))
+    format_for(matches.get_str("format"), matches.get_str("lines"))
+}
+
+fn format_for(word: Option<&str>, lines: Option<&str>) -> Option<Format>
+    ensures { result ≡ format_for (format_of (option_map (λ w. w.now) word.entry)) (option_map (λ w. w.now) lines.entry) }
+{
+    match (format_of(word), lines) {
+        (Some(Format::Trace), Some(_)) => None,
+        (format, _) => format,
+    }
 }
 
 fn format_of(word: Option<&str>) -> Option<Format>
@@ -114,31 +161,54 @@ fn format_named(word: &str) -> Option<Format>
         Some(Format::Svg)
     } else if word == "mermaid" {
         Some(Format::Mermaid)
+    } else if word == "trace" {
+        Some(Format::Trace)
     } else {
         None
     }
 }
 
-fn wanted_in(matches: &ArgMatches<'_>) -> Option<Wanted>
-    ensures { result ≡ wanted_of (first_of (codes "coroutines") (rows_of (found_of matches.now))) }
+fn only_in(matches: &ArgMatches<'_>) -> Option<bool>
+    ensures { result ≡ only_of (first_of (codes "only") (rows_of (found_of matches.now))) }
 {
-    wanted_of(matches.get_str("coroutines"))
+    only_of(matches.get_str("only"))
 }
 
-fn wanted_of(word: Option<&str>) -> Option<Wanted>
-    ensures { result ≡ wanted_of (option_map (λ w. w.now) word.entry) }
+fn only_of(word: Option<&str>) -> Option<bool>
+    ensures { result ≡ only_of (option_map (λ w. w.now) word.entry) }
+{
+    match word {
+        Some(word) => { if word == "channels" { Some(true) } else { None } }
+        None => Some(false),
+    }
+}
+
+fn coroutines_in(matches: &ArgMatches<'_>) -> Option<Range>
+    ensures { result ≡ range_or 0 (first_of (codes "coroutines") (rows_of (found_of matches.now))) }
+{
+    range_or(0, matches.get_str("coroutines"))
+}
+
+fn lines_in(matches: &ArgMatches<'_>) -> Option<Range>
+    ensures { result ≡ range_or 1 (first_of (codes "lines") (rows_of (found_of matches.now))) }
+{
+    range_or(1, matches.get_str("lines"))
+}
+
+fn range_or(first: u32, word: Option<&str>) -> Option<Range>
+    ensures { result ≡ range_or first (option_map (λ w. w.now) word.entry) }
 {
     match word {
         Some(word) => range_of(word.as_bytes()),
-        None => Some(Wanted {
-            first: 0,
+        None => Some(Range {
+            first,
             last: u32::MAX,
         }),
     }
 }
 
 /// The range that a word is: two numbers with a hyphen between them, of which the second is not less.
-fn range_of(word: &[u8]) -> Option<Wanted>
+fn range_of(word: &[u8]) -> Option<Range>
     ensures { result ≡ range_of word.now }
 {
     let (low, behind) = cut_at(b'-', word);
@@ -152,11 +222,11 @@ fn range_of(word: &[u8]) -> Option<Wanted>
     range_between(value_of(low), value_of(high))
 }
 
-fn range_between(first: Option<u32>, last: Option<u32>) -> Option<Wanted>
+fn range_between(first: Option<u32>, last: Option<u32>) -> Option<Range>
     ensures { result ≡ range_between first last }
 {
     match (first, last) {
-        (Some(first), Some(last)) if first <= last => Some(Wanted { first, last }),
+        (Some(first), Some(last)) if first <= last => Some(Range { first, last }),
         _ => None,
     }
 }

@@ -1,12 +1,13 @@
 use Rattle.std.proofs.Common.{◌≡◌, ◌++◌, filter, length}
 use Rattle.report_reader.specs.Reading.{told_lines}
 use Rattle.report_picture.specs.Order.{StandFrom}
-use Rattle.report_picture.specs.Pictures.{StandInColumns, is_of, lines_in}
+use Rattle.report_picture.specs.Pictures.{StandInColumns, is_drawn, lines_in}
 use Rattle.report_picture.proofs.placed.drawn_as_told.Given as goal
 
 abbrev pub invariant-loop-rest : goal.invariant-loop-rest
 invariant-loop-rest l = record {
-  once : lines_in l.drawn.items ++ filter (is_of l.tags) (told_lines l.rest) ≡ filter (is_of l.tags) (told_lines l.lines);
+  once : lines_in l.drawn.items ++ filter (is_drawn l.wanted l.tags) (told_lines l.rest)
+      ≡ filter (is_drawn l.wanted l.tags) (told_lines l.lines);
   columns : StandInColumns l.tags l.drawn.items;
   rows : StandFrom 0 l.drawn.items;
 }

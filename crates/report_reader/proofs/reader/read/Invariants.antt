@@ -8,7 +8,7 @@ use Rattle.report_reader.proofs.reader.read.Given as goal
 abbrev pub invariant-lines : goal.invariant-lines
 invariant-lines l = record {
   says : lines_from l.number (view l.reading) (slice_split (λ b. b == 10) l.rest) ≡ report_of l.bytes;
-  count : l.number + length l.rest ≤ 1048577;
+  count : l.number + length l.rest ≤ 67108865;
 }
 
 abbrev pub decreases-lines : goal.decreases-lines

@@ -20,6 +20,7 @@ returns-in-Ok-Some g c = (
   c.picture_main.result,
   c.leaving.ensures.code,
   c.leaving.ensures.message,
+  c.leaving.ensures.hint,
   means_asked c.picture_main.result _ _ _ _ _ _
       (asked_given (λ all. all.items) (λ all. asked_of (map string_bytes all)) _ _ _ c.in-Ok-Some.field-0-is c.in-Ok-Some.ensures
       ∙ ap (λ all. asked_of (map string_bytes all)) (sym c.as_slice.ensures.value)) c.picture_main.ensures,
@@ -30,6 +31,7 @@ returns-in-Ok-None g c = (
   outcomes.Refused,
   c.leaving-in-Ok-None.ensures.code,
   c.leaving-in-Ok-None.ensures.message,
+  c.leaving-in-Ok-None.ensures.hint,
   (
     (asked_given (λ all. all.items) (λ all. asked_of (map string_bytes all)) _ _ _ c.in-Ok-None.field-0-is c.in-Ok-None.ensures, refl),
     refl,
@@ -37,4 +39,10 @@ returns-in-Ok-None g c = (
 )
 
 pub returns-in-Err : goal.returns-in-Err
-returns-in-Err g c = (outcomes.NoMemory, c.leaving-in-Err.ensures.code, c.leaving-in-Err.ensures.message, (tt, refl))
+returns-in-Err g c = (
+  outcomes.NoMemory,
+  c.leaving-in-Err.ensures.code,
+  c.leaving-in-Err.ensures.message,
+  c.leaving-in-Err.ensures.hint,
+  (tt, refl),
+)

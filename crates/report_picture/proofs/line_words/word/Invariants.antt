@@ -1,6 +1,6 @@
 use Rattle.std.proofs.Common.{◌≡◌, length}
-use Rattle.report_picture.specs.Order.{word}
-use Rattle.report_picture.proofs.sources.word.Given as goal
+use Rattle.report_picture.specs.LineWords.{word}
+use Rattle.report_picture.proofs.line_words.word.Given as goal
 
 abbrev pub invariant-loop-left : goal.invariant-loop-left
 invariant-loop-left l = word l.left l.rest ≡ word l.number l.line

@@ -1,0 +1,12 @@
+use Rattle.std.proofs.Common.{refl}
+use Rattle.run_picture.proofs.top.traced.Goals as goal
+
+pub returns : goal.returns
+returns c = record {
+  trace = c.in_ok-tracing.tracing.trace;
+  tells = c.in_ok-tracing.ensures;
+  is_text = c.in_ok-text.ensures.text;
+  is_json = c.in_ok-text.ensures.json;
+  all = refl;
+  large = refl;
+}
