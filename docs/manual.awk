@@ -45,7 +45,7 @@ BEGIN {
     print "jisthrom run [\\-\\-workers N] < SCRIPT"
     print "jisthrom check < SCRIPT"
     print "jisthrom sum \\-\\-size N [\\-\\-workers N]"
-    print "jisthrom\\-picture [\\-\\-format svg|mermaid] [\\-\\-coroutines A\\-B] < REPORT"
+    print "jisthrom\\-picture [\\-\\-format svg|mermaid|trace] [\\-\\-coroutines A\\-B] [\\-\\-only channels] [\\-\\-lines A\\-B] < REPORT"
     print ".fi"
 }
 
