@@ -24,7 +24,7 @@ use Rattle.channel_model.proofs.Left.{put_here}
 use Rattle.cell_words.specs.declared.hub.Hub.{Hub}
 use Rattle.cell_words.specs.declared.pass.Pass.{Pass}
 use Rattle.cell_words.specs.declared.found.Waiter.{Waiter}
-use Rattle.cell_words.specs.Cells.{buffered, cell_of}
+use Rattle.word_rules.specs.Cells.{buffered, cell_of}
 use Rattle.cell_words.specs.Hubs.{shape_of, seen_by, SameGiving}
 use Rattle.cell_words.specs.Seen.{Seen, Sees}
 use Rattle.cell_words.specs.Answers.{AdmitBelowAnswer, Offers, WasPut}

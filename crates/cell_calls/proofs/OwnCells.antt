@@ -12,9 +12,9 @@ use Rattle.channel_model.specs.Channels.{Shape, Wait, same_wait}
 use Rattle.channel_model.specs.Histories.{replay, Legal}
 use Rattle.channel_model.specs.Answers.{IsOwnWait, IsReadyWait, state_of_parts, state_of_wait}
 use Rattle.channel_model.proofs.Waits.{same_wait-eq}
-use Rattle.cell_words.specs.declared.cell_word.CellWord.{CellWord}
-use Rattle.cell_words.specs.Cells.{Cell, free, receiver, offer, buffered, spot, cell_of}
-use Rattle.cell_words.specs.Words.{number, word_of_cell}
+use Rattle.word_rules.specs.declared.cell_word.CellWord.{CellWord}
+use Rattle.word_rules.specs.Cells.{Cell, free, receiver, offer, buffered, spot, cell_of}
+use Rattle.word_rules.specs.Words.{number, word_of_cell}
 use Rattle.cell_words.specs.Answers.{IsCellWord}
 use Rattle.cell_words.proofs.ListsOfCells.{IsNamed, CellNamed}
 use Rattle.cell_words.proofs.CellsTellFacts.{tied_now}

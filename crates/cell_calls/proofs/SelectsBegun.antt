@@ -10,7 +10,7 @@ use Rattle.channel_model.specs.Floors.{Floor, Made}
 use Rattle.channel_model.proofs.Histories.{Legal-last, replay_push}
 use Rattle.channel_model.proofs.Sound.{sound}
 use Rattle.channel_model.proofs.Waits.{at_wait}
-use Rattle.cell_words.specs.Cells.{spot}
+use Rattle.word_rules.specs.Cells.{spot}
 
 pub begun_joins : (who p : ℕ) (old new : Floor) → Legal new.shape new.seen → Made who (Await 0 p (spot 0 p) 1) old new
     → JoinsWait who 2 1 ((replay new.seen).waits (spot 0 p))

@@ -20,7 +20,7 @@ use Rattle.channel_model.specs.Registers.{MayRegister}
 use Rattle.channel_model.proofs.Sound.{sound, EndsResolved}
 use Rattle.cell_words.specs.declared.hub.Hub.{Hub}
 use Rattle.cell_words.specs.declared.pass.Pass.{Pass}
-use Rattle.cell_words.specs.Words.{IsCell}
+use Rattle.word_rules.specs.Words.{IsCell}
 use Rattle.cell_words.specs.Hubs.{shape_of, seen_by}
 use Rattle.cell_words.specs.Seen.{Seen, Sees}
 use Rattle.cell_words.specs.Clauses.{MayPlace}

@@ -5,7 +5,7 @@ use Rattle.channel_model.specs.declared.acts.Entry.{Entry}
 use Rattle.channel_model.specs.Channels.{Shape}
 use Rattle.channel_model.specs.Histories.{replay, Legal}
 use Rattle.cell_words.specs.declared.found.Waiter.{Waiter}
-use Rattle.cell_words.specs.Cells.{receiver, cell_of}
+use Rattle.word_rules.specs.Cells.{receiver, cell_of}
 use Rattle.cell_words.specs.Seen.{Seen, Sees}
 use Rattle.cell_words.specs.Answers.{Receives}
 use Rattle.cell_words.specs.Clauses.{ReceiverStandsAt}

@@ -3,6 +3,7 @@ use Rattle.channel_model.specs.Floors.{Floor}
 use Rattle.cell_calls.specs.declared.desk.Desk.{Desk}
 use Rattle.cell_calls.specs.declared.desk.DeskAnchor.{DeskAnchor}
 use Rattle.cell_calls.specs.HubFloors.{hub_floor}
+use Rattle.cell_words.specs.Hubs.{seen_by}
 
 -- what its callers have seen
 abbrev pub desk_floor : Desk → Floor
@@ -14,6 +15,6 @@ desk_anchor d =
     record {
       hub = d.hub.now;
       name = d.pass.ghost_name;
-      chief = d.pass.now.seat.me.0.chief;
-      given = d.pass.now.seat.me.0.given;
+      chief = (seen_by d.pass.now).chief;
+      given = (seen_by d.pass.now).given;
     }

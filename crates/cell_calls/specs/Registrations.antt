@@ -10,7 +10,7 @@ use Rattle.channel_model.specs.Histories.{replay}
 use Rattle.channel_model.specs.Floors.{Floor, AtMoment}
 use Rattle.channel_model.specs.Answers.{IsOwnWait, state_of_wait}
 use Rattle.channel_model.specs.Registers.{IsMainResolved}
-use Rattle.cell_words.specs.Words.{IsCell}
+use Rattle.word_rules.specs.Words.{IsCell}
 
 -- the select's wait, if it has one, is who's, and began at a cell
 abbrev pub IsOwnMain : Shape → ℕ → Option WaitId → List Entry → Type 0

@@ -2,7 +2,7 @@
 ghost use Rattle.channel_model.specs.Floors.{MayCall};
 ghost use Rattle.channel_model.specs.Answers.{GotAnswer, TriedGotAnswer};
 ghost use Rattle.channel_model.specs.Laws.{NoneBelow};
-ghost use Rattle.cell_words.specs.Words.{IsCell};
+ghost use Rattle.word_rules.specs.Words.{IsCell};
 ghost use Rattle.cell_words.specs.Hubs.{shape_of, seen_by, IsOf, IsOwn, SameGiving};
 ghost use Rattle.cell_words.specs.Seen.{at_channel};
 ghost use Rattle.cell_calls.specs.HubFloors.{hub_floor};

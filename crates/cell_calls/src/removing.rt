@@ -1,6 +1,6 @@
 //! The element of an offer is removed: it is taken, or drained from a cancelled channel.
 ghost use Rattle.channel_model.specs.Laws.{NoneBelow};
-ghost use Rattle.cell_words.specs.Words.{IsCell};
+ghost use Rattle.word_rules.specs.Words.{IsCell};
 ghost use Rattle.cell_words.specs.Hubs.{shape_of, seen_by, IsOwn};
 ghost use Rattle.cell_words.specs.Seen.{at_channel};
 ghost use Rattle.cell_words.specs.Answers.{Offers, MayRemoveHeld};

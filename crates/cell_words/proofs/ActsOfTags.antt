@@ -5,8 +5,9 @@ use Rattle.worded.specs.Histories.{entries_of}
 use Rattle.channel_model.specs.declared.acts.Act.{Act}
 use Rattle.channel_model.specs.declared.acts.Entry.{Entry}
 use Rattle.channel_model.specs.Histories.{Legal, acts_of}
-use Rattle.cell_words.specs.declared.layout.Layout.{Layout}
-use Rattle.cell_words.specs.Seen.{Seen, maker, NothingOf}
+use Rattle.word_rules.specs.declared.layout.Layout.{Layout}
+use Rattle.cell_words.specs.Seen.{Seen, NothingOf}
+use Rattle.word_rules.specs.Words.{maker}
 
 -- the acts of these entries
 abbrev pub acts_in : List Entry → List Act

@@ -14,7 +14,7 @@ use Rattle.channel_model.specs.Effects.{close_value}
 use Rattle.channel_model.specs.Needs.{Needs}
 use Rattle.channel_model.specs.Histories.{replay_from, Legal, LegalFrom}
 use Rattle.channel_model.proofs.Histories.{LegalFrom-parts}
-use Rattle.cell_words.specs.Cells.{closed_by, voided_by, Board, step_board, blank, board_from, board_of, end_cell}
+use Rattle.word_rules.specs.Cells.{closed_by, voided_by, Board, step_board, blank, board_from, board_of, end_cell}
 use Rattle.cell_words.proofs.ListsOfCells.{Tied, ties_stood}
 use Rattle.cell_words.proofs.PlacesGivenOut.{ties_put, ties_offer, ties_await, ties_settle}
 use Rattle.cell_words.proofs.OffersAdmitted.{ties_admit}

@@ -13,7 +13,7 @@ use Rattle.channel_model.specs.Histories.{replay, Legal}
 use Rattle.channel_model.specs.Answers.{IsResolvedWait}
 use Rattle.channel_model.proofs.Others.{other_keeps}
 use Rattle.channel_model.proofs.Resolutions.{resolved_stays}
-use Rattle.cell_words.specs.Cells.{Cell, receiver, offer, buffered, emptied, set_cell, standing, offer_of, offer_by, offer_after, emptied_if, mark, Board, blank, cell_of, is_used}
+use Rattle.word_rules.specs.Cells.{Cell, receiver, offer, buffered, emptied, set_cell, standing, offer_of, offer_by, offer_after, emptied_if, mark, Board, blank, cell_of, is_used}
 use Rattle.cell_words.proofs.ListsOfCells.{Tied, by_spot, cell_else}
 use Rattle.channel_model.proofs.Sound.{given_keeps, channel_lasts}
 use Rattle.cell_words.proofs.CellsGiveLists.{BoardLasts, board_lasts, board_state}

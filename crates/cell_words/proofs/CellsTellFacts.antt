@@ -9,7 +9,7 @@ use Rattle.channel_model.specs.declared.standing.Standing.{Standing}
 use Rattle.channel_model.specs.declared.standing.Receiver.{Receiver}
 use Rattle.channel_model.specs.Channels.{Shape, State, Channel}
 use Rattle.channel_model.specs.Histories.{replay, Legal}
-use Rattle.cell_words.specs.Cells.{free, closed_by, voided_by, cell_of, blank, Board, standing, awaiting, gather, is_used, end_cell}
+use Rattle.word_rules.specs.Cells.{free, closed_by, voided_by, cell_of, blank, Board, standing, awaiting, gather, is_used, end_cell}
 use Rattle.channel_model.specs.Laws.{NoneBelow}
 use Rattle.cell_words.proofs.GatheredLists.{gather_none, gather_first, all_gather, gather_all}
 use Rattle.cell_words.proofs.ListsOfCells.{board, Tied, awaiting_is, standing_is}

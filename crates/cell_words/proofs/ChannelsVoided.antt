@@ -8,11 +8,11 @@ use Rattle.channel_model.specs.Effects.{close_value}
 use Rattle.channel_model.specs.Histories.{replay, Legal}
 use Rattle.channel_model.proofs.EveryAct.{ChannelKeeps}
 use Rattle.channel_model.proofs.Sound.{channel_lasts}
-use Rattle.cell_words.specs.declared.cell_word.CellState.TheVariants as cell
-use Rattle.cell_words.specs.declared.cell_word.CellWord.{CellWord}
-use Rattle.cell_words.specs.Cells.{Cell, closed_by, voided_by, set_cell, cell_of, board_of, blank, end_cell}
-use Rattle.cell_words.specs.Codes.{packed_cell}
-use Rattle.cell_words.specs.Words.{cell_number, plain_word, cell_code, CellFits, Fits}
+use Rattle.word_rules.specs.declared.cell_word.CellState.TheVariants as cell
+use Rattle.word_rules.specs.declared.cell_word.CellWord.{CellWord}
+use Rattle.word_rules.specs.Cells.{Cell, closed_by, voided_by, set_cell, cell_of, board_of, blank, end_cell}
+use Rattle.word_rules.specs.Codes.{packed_cell}
+use Rattle.word_rules.specs.Words.{cell_number, plain_word, cell_code, CellFits, Fits}
 use Rattle.cell_words.specs.Seen.{Seen, at_channel, Sees}
 use Rattle.cell_words.specs.Answers.{MayTurn, IsCellWord}
 use Rattle.cell_words.proofs.CellsGiveLists.{board_state}

@@ -19,11 +19,11 @@ use Rattle.channel_model.proofs.Firsts.{may_begin}
 use Rattle.channel_model.proofs.Joining.{join_step}
 use Rattle.channel_model.proofs.GoneForGood.{below_lasts}
 use Rattle.channel_model.proofs.Sound.{sound}
-use Rattle.cell_words.specs.declared.cell_word.CellState.{CellState}
-use Rattle.cell_words.specs.declared.cell_word.CellWord.{CellWord}
-use Rattle.cell_words.specs.Cells.{free, receiver, offer, spot, cell_of}
-use Rattle.cell_words.specs.Words.{cells_in, number, cell_number, PartyFits, party_word, cell_code}
-use Rattle.cell_words.specs.Seen.{Seen, maker, at_channel, Sees}
+use Rattle.word_rules.specs.declared.cell_word.CellState.{CellState}
+use Rattle.word_rules.specs.declared.cell_word.CellWord.{CellWord}
+use Rattle.word_rules.specs.Cells.{free, receiver, offer, spot, cell_of}
+use Rattle.word_rules.specs.Words.{cells_in, number, cell_number, PartyFits, party_word, cell_code, maker}
+use Rattle.cell_words.specs.Seen.{Seen, at_channel, Sees}
 use Rattle.cell_words.specs.Answers.{MayTurn}
 use Rattle.cell_words.specs.Clauses.{IsMainCell, BeganElsewhere, MayPlace, clause_word}
 use Rattle.cell_words.proofs.OneNumberOneWord.{number_within}

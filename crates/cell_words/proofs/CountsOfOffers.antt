@@ -5,7 +5,7 @@ use Rattle.channel_model.specs.declared.acts.Entry.{Entry}
 use Rattle.channel_model.specs.declared.standing.Standing.{Standing}
 use Rattle.channel_model.specs.Channels.{Shape}
 use Rattle.channel_model.specs.Histories.{replay, Legal}
-use Rattle.cell_words.specs.Cells.{cell_of, standing, gather, add_some}
+use Rattle.word_rules.specs.Cells.{cell_of, standing, gather, add_some}
 use Rattle.cell_words.specs.Answers.{stands}
 use Rattle.cell_words.proofs.GatheredLists.{gather_all, all_gather}
 use Rattle.cell_words.proofs.ListsOfCells.{standing_is}

@@ -1,4 +1,4 @@
--- Elements that were put while fewer stood than the channel keeps: nobody spurns them, so they stand while an offer stands before them.
+-- An element that was put while fewer stood than the channel keeps: nobody spurns it, so it stands while an offer stands before it.
 use Rattle.std.proofs.Common.{◌≡◌, ◌⊎◌, ℕ, zero, suc, ◌+◌, ◌-◌, ◌<◌, ◌≤◌, ◌==◌, nat_le, Bool, true, false, true≢false, not, ◌&&◌, List, [], ◌∷◌, ◌++◌, length, if◌then◌else◌, Option, Some, None, is_some, sym, refl, ap, ◌∙◌, subst, ⊎_elim, inl, inr, arith, eq-eqb, ne_eqb}
 use Rattle.std.proofs.lemmas.Bool.{eqb-true}
 use Rattle.std.proofs.lemmas.Bool.Decides.{nat_tests}
@@ -20,50 +20,28 @@ use Rattle.channel_model.proofs.EveryAct.{after_keeps}
 use Rattle.channel_model.proofs.GoneForGood.{none_keeps}
 use Rattle.channel_model.proofs.Histories.{replay_push, LegalFrom-parts}
 use Rattle.channel_model.proofs.Sound.{Sound}
-use Rattle.cell_words.specs.Cells.{Cell, free, receiver, offer, buffered, emptied, closed_by, voided_by, set_cell, standing, emptied_if, mark, Board, step_board, board_from, board_of, blank, cell_of, gather, is_used}
-use Rattle.cell_words.specs.Words.{holds_put, had_room, counted, WerePut}
+use Rattle.word_rules.specs.Cells.{Cell, free, receiver, offer, buffered, emptied, closed_by, voided_by, set_cell, standing, emptied_if, mark, Board, step_board, board_from, board_of, blank, cell_of, gather, is_used}
+use Rattle.word_rules.specs.Words.{kept_put, kept_in, was_over, fate}
 use Rattle.cell_words.specs.Seen.{Seen, Sees, Makes, at_channel}
-use Rattle.cell_words.specs.Answers.{stands}
+use Rattle.cell_words.specs.Answers.{stands, WasPut}
 use Rattle.cell_words.proofs.ListsOfCells.{Tied, by_spot, cell_here}
 use Rattle.cell_words.proofs.CellsGiveLists.{board_lasts, board_state}
-use Rattle.cell_words.proofs.PutWithRoom.{both, not_true, one_true, one_false, counted_few, counted_up, counted_one, were_put_more}
+use Rattle.cell_words.proofs.CellsLast.{kept_more}
 use Rattle.cell_words.proofs.CellsTellFacts.{now, tied_now, used_given}
 use Rattle.cell_words.proofs.CountsOfOffers.{cell_by_none, gone_more, count_some, count_less, count_up}
 use Rattle.cell_words.proofs.EntriesOnOneWord.{cells_push}
 use Rattle.cell_words.proofs.ExchangesTell.{before_legal}
 use Rattle.cell_words.proofs.WalksToAdmit.{none_before}
 
--- ---- what lasts of a count
-
-pub count_seen : (shape : Shape) (c from to count : ℕ) (v w : Seen) → Sees v w → Legal shape w.seen → WerePut shape v.seen c from to count
-    → WerePut shape w.seen c from to count
-count_seen shape c from to count v w s l h = subst (λ (es : List Entry). WerePut shape es c from to count) (sym s.now)
-    (were_put_more shape c from to count v.seen s.others (subst (Legal shape) s.now l) h)
-
-pub count_made : (shape : Shape) (c from to count : ℕ) (e : Entry) (v w : Seen) → Makes v e w → Legal shape w.seen
-    → WerePut shape v.seen c from to count → WerePut shape w.seen c from to count
-count_made shape c from to count e v w m l h = subst (λ (es : List Entry). WerePut shape es c from to count) (sym m.now)
-    (were_put_more shape c from to count (v.seen ++ m.others) (e ∷ []) (subst (Legal shape) m.now l)
-    (were_put_more shape c from to count v.seen m.others (before_legal shape v w e l m) h))
-
--- one element more, behind those that were counted
-pub count_longer : (shape : Shape) (log : List Entry) (c from to count p : ℕ) → from ≤ to → to ≤ p → WerePut shape log c from to count
-    → had_room shape log c p ≡ true → WerePut shape log c from (p + 1) (count + 1)
-count_longer shape log c from to count p le before h room d e =
-    let f = had_room shape log c in
-    let n = p - from in
-    let a = h (to - from) (omega arith) in
-    let b = counted_up f from (p - to) (to - from) n (omega arith) in
-    let one = counted_one f from n p (omega arith) room in
-    let is : suc n ≡ d = omega arith in
-    subst (λ (z : ℕ). count + 1 ≤ counted f from z) is (omega arith)
-
--- or a count begins with it
-pub count_first : (shape : Shape) (log : List Entry) (c p : ℕ) → had_room shape log c p ≡ true → WerePut shape log c p (p + 1) 1
-count_first shape log c p room d e =
-    let one = counted_one (had_room shape log c) p 0 p (omega arith) room in
-    let is : suc 0 ≡ d = omega arith in
-    subst (λ (z : ℕ). 1 ≤ counted (had_room shape log c) p z) is (omega arith)
+-- an element was put in this cell; it may have been removed since
+abbrev holds_put : Cell → Bool
+holds_put free = false
+holds_put (receiver who w k) = false
+holds_put (offer v who w k) = false
+holds_put (buffered v) = true
+holds_put (emptied v) = true
+holds_put (closed_by v) = false
+holds_put (voided_by v) = false
 
 -- ---- how many stood stays, once a place was given out
 
@@ -172,7 +150,7 @@ module _ (shape : Shape) (c p q : ℕ) (lt : p < q) where
   unfolding board_from
   why_blank v is = absurd (true≢false (sym (ap holds_put is)))
 
-  why_emptied : (log : List Entry) (v : ℕ) → Legal shape log → cell_of log c q ≡ emptied v
+  pub why_emptied : (log : List Entry) (v : ℕ) → Legal shape log → cell_of log c q ≡ emptied v
       → (stands log c p ≡ None) ⊎ (spurns (kind_at shape c) ((replay log).stood c q) ≡ true)
   why_emptied log v l is = ⊎_elim
       (λ (x : NoOffer p ((board_of log).state.channels c)). inl (cell_by_none shape log l c p
@@ -181,126 +159,25 @@ module _ (shape : Shape) (c p q : ℕ) (lt : p < q) where
       (subst (λ (s : State). spurns (kind_at shape c) (s.stood c q) ≡ true) (board_state blank log) x))
       (board_lasts shape WhyEmptied (record { step = why_step }) [] log l why_blank v is)
 
--- ---- it stands while an offer stands before it
-
-room_stands : (shape : Shape) (c low q : ℕ) (log : List Entry) → Legal shape log → low ≤ q → is_some (stands log c low) ≡ true
-    → had_room shape log c q ≡ true → is_some (stands log c q) ≡ true
-room_stands shape c low q log l le st room = go (cell_of log c q) refl x.0
-  where
-    x : (holds_put (cell_of log c q) ≡ true) × (not (spurns (kind_at shape c) ((replay log).stood c q)) ≡ true)
-    x = both (holds_put (cell_of log c q)) (not (spurns (kind_at shape c) ((replay log).stood c q))) room
-
-    fits : spurns (kind_at shape c) ((replay log).stood c q) ≡ false
-    fits = not_true (spurns (kind_at shape c) ((replay log).stood c q)) x.1
-
-    go : (y : Cell) → cell_of log c q ≡ y → holds_put (cell_of log c q) ≡ true → is_some (stands log c q) ≡ true
-    go (buffered v) e h = ap (λ (z : Cell). is_some (standing (replay log).waits q z)) e
-    go (emptied v) e h = dite (ℕ_discrete low q) (λ (same : low ≡ q). subst (λ (z : ℕ). is_some (stands log c z) ≡ true) same st)
-        (λ ne. ⊎_elim
-        (λ (g : stands log c low ≡ None). absurd (true≢false (sym st ∙ ap is_some g)))
-        (λ (g : spurns (kind_at shape c) ((replay log).stood c q) ≡ true). absurd (true≢false (sym g ∙ fits)))
-        (why_emptied shape c low q (omega arith) log v l e))
-    go free e h = absurd (true≢false (sym h ∙ ap holds_put e))
-    go (receiver who w k) e h = absurd (true≢false (sym h ∙ ap holds_put e))
-    go (offer v who w k) e h = absurd (true≢false (sym h ∙ ap holds_put e))
-    go (closed_by v) e h = absurd (true≢false (sym h ∙ ap holds_put e))
-    go (voided_by v) e h = absurd (true≢false (sym h ∙ ap holds_put e))
-
-module _ (shape : Shape) (c low from : ℕ) (log : List Entry) (l : Legal shape log) (le : from ≤ low)
-    (st : is_some (stands log c low) ≡ true) where
-  counted_stand : (n : ℕ) → counted (had_room shape log c) from n + from ≤ low + length (gather (stands log c) (from + n))
-  counted_stand zero = omega arith
-  counted_stand (suc n) = go (had_room shape log c (from + n)) refl (counted_stand n)
-    where
-      next : (from + n) + 1 ≡ from + suc n
-      next = omega arith
-
-      go : (b : Bool) → had_room shape log c (from + n) ≡ b
-          → counted (had_room shape log c) from n + from ≤ low + length (gather (stands log c) (from + n))
-          → counted (had_room shape log c) from (suc n) + from ≤ low + length (gather (stands log c) (from + suc n))
-      go false e i =
-          let same = one_false (had_room shape log c (from + n)) e in
-          let more = count_up (stands log c) (from + n) 1 (from + suc n) (omega arith) in
-          omega arith
-      go true e i =
-          let one = one_true (had_room shape log c (from + n)) e in
-          dite (dec_le (suc (from + n)) low)
-          (λ before. let few = counted_few (had_room shape log c) from n in omega arith)
-          (λ beyond. let k = count_some (stands log c) (from + n) (length (gather (stands log c) (from + n))) (omega arith)
-          (room_stands shape c low (from + n) log l (omega arith) st e) in
-          let m : length (gather (stands log c) ((from + n) + 1)) ≡ length (gather (stands log c) (from + suc n)) =
-          ap (λ (z : ℕ). length (gather (stands log c) z)) next in
-          omega arith)
-
-  -- so many stand before a place as were put with room from the first that stands on
-  pub room_count_stands : (to count most end : ℕ) → from ≤ to → to ≤ end → WerePut shape log c from to count → most + low ≤ count + from
-      → most ≤ length (gather (stands log c) end)
-  room_count_stands to count most end within before h many =
-      let k = h (to - from) (omega arith) in
-      let s = counted_stand (to - from) in
-      let is : from + (to - from) ≡ to = omega arith in
-      let m : length (gather (stands log c) (from + (to - from))) ≡ length (gather (stands log c) to) =
-      ap (λ (z : ℕ). length (gather (stands log c) z)) is in
-      let up = count_up (stands log c) to (end - to) end (omega arith) in
-      omega arith
-
--- they all stand, and so does one before them
-module _ (shape : Shape) (c low from : ℕ) (log : List Entry) (l : Legal shape log) (lt : low < from)
-    (st : is_some (stands log c low) ≡ true) where
-  counted_behind : (n : ℕ) → counted (had_room shape log c) from n + 1 ≤ length (gather (stands log c) (from + n))
-  counted_behind zero =
-      let k = count_some (stands log c) low 0 (omega arith) st in
-      let up = count_up (stands log c) (low + 1) (from - (low + 1)) (from + 0) (omega arith) in
-      omega arith
-  counted_behind (suc n) = go (had_room shape log c (from + n)) refl (counted_behind n)
-    where
-      next : (from + n) + 1 ≡ from + suc n
-      next = omega arith
-
-      go : (b : Bool) → had_room shape log c (from + n) ≡ b
-          → counted (had_room shape log c) from n + 1 ≤ length (gather (stands log c) (from + n))
-          → counted (had_room shape log c) from (suc n) + 1 ≤ length (gather (stands log c) (from + suc n))
-      go false e i =
-          let same = one_false (had_room shape log c (from + n)) e in
-          let more = count_up (stands log c) (from + n) 1 (from + suc n) (omega arith) in
-          omega arith
-      go true e i =
-          let one = one_true (had_room shape log c (from + n)) e in
-          let k = count_some (stands log c) (from + n) (length (gather (stands log c) (from + n))) (omega arith)
-          (room_stands shape c low (from + n) log l (omega arith) st e) in
-          let m : length (gather (stands log c) ((from + n) + 1)) ≡ length (gather (stands log c) (from + suc n)) =
-          ap (λ (z : ℕ). length (gather (stands log c) z)) next in
-          omega arith
-
-  pub room_behind_stands : (to count most end : ℕ) → from ≤ to → to ≤ end → WerePut shape log c from to count → most ≤ count + 1
-      → most ≤ length (gather (stands log c) end)
-  room_behind_stands to count most end within before h many =
-      let k = h (to - from) (omega arith) in
-      let s = counted_behind (to - from) in
-      let is : from + (to - from) ≡ to = omega arith in
-      let m : length (gather (stands log c) (from + (to - from))) ≡ length (gather (stands log c) to) =
-      ap (λ (z : ℕ). length (gather (stands log c) z)) is in
-      let up = count_up (stands log c) to (end - to) end (omega arith) in
-      omega arith
-
 -- ---- an element is put with room
 
 put_pushed : (shape : Shape) (who c p value most : ℕ) (log : List Entry)
     → Legal shape (log ++ record { who = who; act = Put c p value } ∷ [])
     → ((n : ℕ) → spurns (kind_at shape c) n ≡ nat_le most n) → length (gather (stands log c) p) < most
-    → had_room shape (log ++ record { who = who; act = Put c p value } ∷ []) c p ≡ true
+    → fate shape (log ++ record { who = who; act = Put c p value } ∷ []) c p ≡ Some true
 unfolding replay_from LegalFrom
 put_pushed shape who c p value most log l kind less =
     let e : Entry = record { who = who; act = Put c p value } in
     let parts = LegalFrom-parts shape start log (e ∷ []) l in
-    let cell : holds_put (cell_of (log ++ e ∷ []) c p) ≡ true =
-    ap holds_put (cells_push log e c p ∙ cell_here (board_of log).cells c p (buffered value)) in
+    let cell : cell_of (log ++ e ∷ []) c p ≡ buffered value =
+    cells_push log e c p ∙ cell_here (board_of log).cells c p (buffered value) in
     let stood : (replay (log ++ e ∷ [])).stood c p ≡ length (at_channel log c).queue =
     ap (λ (s : State). s.stood c p) (replay_push log e) ∙ own c p (length (at_channel log c).queue) ((replay log).stood c p) in
     let first : p ≡ (at_channel log c).next = (parts.1.0.1).first in
     let many : length (at_channel log c).queue ≡ length (gather (stands log c) p) =
     ap length ((tied_now shape log parts.0).queues c) ∙ ap (λ (z : ℕ). length (gather (stands log c) z)) (sym first) in
-    join (holds_put (cell_of (log ++ e ∷ []) c p)) (spurns (kind_at shape c) ((replay (log ++ e ∷ [])).stood c p)) cell
+    ap (kept_in (was_over shape (log ++ e ∷ []) c p) (replay (log ++ e ∷ [])).waits) cell
+    ∙ ap kept_put
     (ap (spurns (kind_at shape c)) (stood ∙ many) ∙ kind (length (gather (stands log c) p))
     ∙ within (length (gather (stands log c) p)) less)
   where
@@ -311,18 +188,39 @@ put_pushed shape who c p value most log l kind less =
     within : (n : ℕ) → n < most → nat_le most n ≡ false
     within n h = grind (arith, nat_tests)
 
-    join : (a b : Bool) → a ≡ true → b ≡ false → (a && not b) ≡ true
-    join true false e f = refl
-    join true true e f = cc
-    join false b e f = cc
-
-pub put_had_room : (shape : Shape) (who c p value most : ℕ) (v w : Seen) → Makes v (record { who = who; act = Put c p value }) w
+pub put_kept : (shape : Shape) (who c p value most : ℕ) (v w : Seen) → Makes v (record { who = who; act = Put c p value }) w
     → Legal shape v.seen → Legal shape w.seen → p ≤ (at_channel v.seen c).next → ((n : ℕ) → spurns (kind_at shape c) n ≡ nat_le most n)
-    → length (gather (stands v.seen c) p) < most → had_room shape w.seen c p ≡ true
-put_had_room shape who c p value most v w m lv l given kind less =
+    → length (gather (stands v.seen c) p) < most → fate shape w.seen c p ≡ Some true
+put_kept shape who c p value most v w m lv l given kind less =
     let e : Entry = record { who = who; act = Put c p value } in
     let before = before_legal shape v w e l m in
     let fewer = count_less (stands v.seen c) (stands (v.seen ++ m.others) c) p
     (λ q lt none. gone_more shape c q v.seen m.others lv before (omega arith) none) in
-    subst (λ (es : List Entry). had_room shape es c p ≡ true) (sym m.now)
+    subst (λ (es : List Entry). fate shape es c p ≡ Some true) (sym m.now)
     (put_pushed shape who c p value most (v.seen ++ m.others) (subst (Legal shape) m.now l) kind (omega arith))
+
+-- ---- an element is spurned
+
+spurn_pushed : (shape : Shape) (who c p value : ℕ) (log : List Entry)
+    → Legal shape (log ++ record { who = who; act = Spurn c p value } ∷ []) → WasPut c p value log
+    → fate shape (log ++ record { who = who; act = Spurn c p value } ∷ []) c p ≡ Some false
+unfolding replay_from LegalFrom
+spurn_pushed shape who c p value log l put =
+    let e : Entry = record { who = who; act = Spurn c p value } in
+    let parts = LegalFrom-parts shape start log (e ∷ []) l in
+    let over : was_over shape (log ++ e ∷ []) c p ≡ true =
+    ap (λ (s : State). spurns (kind_at shape c) (s.stood c p)) (replay_push log e) ∙ parts.1.0.1 in
+    let gone : emptied_if (standing (board_of log).state.waits p (cell_of log c p)) (cell_of log c p) ≡ emptied value = ⊎_elim
+    (λ (x : cell_of log c p ≡ buffered value). ap (λ (y : Cell). emptied_if (standing (board_of log).state.waits p y) y) x)
+    (λ (x : cell_of log c p ≡ emptied value). ap (λ (y : Cell). emptied_if (standing (board_of log).state.waits p y) y) x) put in
+    let cell : cell_of (log ++ e ∷ []) c p ≡ emptied value =
+    cells_push log e c p ∙ (cell_here (board_of log).cells c p _ ∙ gone) in
+    ap (kept_in (was_over shape (log ++ e ∷ []) c p) (replay (log ++ e ∷ [])).waits) cell ∙ ap (λ (z : Bool). Some (not z)) over
+
+pub spurned_is : (shape : Shape) (who c p value : ℕ) (v w : Seen) → Makes v (record { who = who; act = Spurn c p value }) w
+    → Legal shape w.seen → WasPut c p value v.seen → fate shape w.seen c p ≡ Some false
+spurned_is shape who c p value v w m l put =
+    let e : Entry = record { who = who; act = Spurn c p value } in
+    subst (λ (es : List Entry). fate shape es c p ≡ Some false) (sym m.now)
+    (spurn_pushed shape who c p value (v.seen ++ m.others) (subst (Legal shape) m.now l)
+    (kept_more shape c p value v.seen m.others (before_legal shape v w e l m) put))

@@ -19,14 +19,14 @@ use Rattle.channel_model.specs.Answers.{first_receiver, first_holder, owner_of, 
 use Rattle.channel_model.proofs.Histories.{replay_push, Legal_push}
 use Rattle.channel_model.proofs.Waits.{same_wait-eq, at_wait}
 use Rattle.channel_model.proofs.Firsts.{may_begin}
-use Rattle.cell_words.specs.Cells.{Cell, free, receiver, offer, buffered, emptied, closed_by, Cells, spot, set_cell, mark, Board, board_of, blank, cell_of, standing, awaiting, receiver_of, receiver_by, offer_of, offer_by, emptied_if, is_used}
-use Rattle.cell_words.specs.Words.{number, cell_number, wait_number, cell_code, wait_code, parts_word, how_code, HowFits, HasWaitCode, PartyFits, CellFits, Fits}
-use Rattle.cell_words.specs.Codes.{packed_wait}
+use Rattle.word_rules.specs.Cells.{Cell, free, receiver, offer, buffered, emptied, closed_by, Cells, spot, set_cell, mark, Board, board_of, blank, cell_of, standing, awaiting, receiver_of, receiver_by, offer_of, offer_by, emptied_if, is_used}
+use Rattle.word_rules.specs.Words.{number, cell_number, wait_number, cell_code, wait_code, parts_word, how_code, HowFits, HasWaitCode, PartyFits, CellFits, Fits}
+use Rattle.word_rules.specs.Codes.{packed_wait}
 use Rattle.cell_words.specs.declared.found.Removal.{Removal}
 use Rattle.cell_words.specs.declared.found.Removal.TheVariants as removal
 use Rattle.cell_words.specs.Removals.{removal_act, how_removed}
 use Rattle.cell_words.specs.Answers.{MayRemoveHeld}
-use Rattle.cell_words.proofs.OneNumberOneWord.{number_apart, cell_not_wait, wait_not_send, cell_not_receive, cell_not_send, wait_not_receive, cell_not_run, cell_not_room, wait_not_run, wait_not_room, cell_not_decided, wait_not_decided, same_number, same_number_odd}
+use Rattle.cell_words.proofs.OneNumberOneWord.{number_apart, cell_not_wait, wait_not_send, cell_not_receive, cell_not_send, wait_not_receive, cell_not_run, wait_not_run, cell_not_decided, wait_not_decided, cell_not_mark, wait_not_mark, same_number, same_number_odd}
 use Rattle.cell_words.proofs.ListsOfCells.{IsNamed, CellNamed, standing_is, cell_here, cell_else, set_same}
 use Rattle.cell_words.proofs.OffersRemoved.{offer_place}
 use Rattle.cell_words.proofs.OffersSpurned.{offer_gathered}
@@ -35,8 +35,7 @@ use Rattle.cell_words.proofs.CellsGiveLists.{board_push, board_state}
 use Rattle.cell_words.proofs.CellsTellFacts.{now, tied_now, used_given, first_line, first_queue, free_end}
 use Rattle.channel_model.proofs.GoneForGood.{below_lasts}
 use Rattle.cell_words.proofs.PlacesWereKept.{were_kept_more}
-use Rattle.cell_words.proofs.PlacesDecided.{were_decided_more}
-use Rattle.cell_words.proofs.PutWithRoom.{were_put_more}
+use Rattle.cell_words.proofs.PlacesDecided.{were_decided_more, mark_more}
 
 pub cells_push : (log : List Entry) (e : Entry) (c p : ℕ)
     → cell_of (log ++ e ∷ []) c p ≡ mark (board_of log).state (board_of log).cells e.who e.act c p
@@ -57,8 +56,8 @@ module _ (shape : Shape) (log : List Entry) (e : Entry) (l : Legal shape (log ++
     sends = λ d ld at. below_lasts shape log (e ∷ []) d n 0 l (f.sends d ld at);
     receives = λ d ld at. below_lasts shape log (e ∷ []) d 0 n l (f.receives d ld at);
     run = λ d ld at. were_kept_more shape d (n % 4294967296) (n / 4294967296) log (e ∷ []) l (f.run d ld at);
-    room = λ d ld at. were_put_more shape d _ _ _ log (e ∷ []) l (f.room d ld at);
     decided = λ d ld at. were_decided_more shape d _ _ _ log (e ∷ []) l (f.decided d ld at);
+    mark = λ d q ld lq at. mark_more shape d q n log (e ∷ []) l (f.mark d q ld lq at);
   }
 
   -- the word of a wait says what it is now
@@ -71,8 +70,8 @@ module _ (shape : Shape) (log : List Entry) (e : Entry) (l : Legal shape (log ++
     sends = λ d ld at. absurd (wait_not_send shape c d p at);
     receives = λ d ld at. absurd (wait_not_receive shape c d p at);
     run = λ d ld at. absurd (wait_not_run shape c d p lc lp at);
-    room = λ d ld at. absurd (wait_not_room shape c d p at);
     decided = λ d ld at. absurd (wait_not_decided shape c d p lc lp at);
+    mark = λ d q ld lq at. absurd (wait_not_mark shape c d p q lc lp at);
   }
 
   pub turned_cell : (c p n : ℕ) → c < length shape → p ≤ places_at shape c → (n ≡ cell_code shape c p (cell_of (log ++ e ∷ []) c p))
@@ -85,8 +84,8 @@ module _ (shape : Shape) (log : List Entry) (e : Entry) (l : Legal shape (log ++
     sends = λ d ld at. absurd (cell_not_send shape c d p lc lp at);
     receives = λ d ld at. absurd (cell_not_receive shape c d p lc lp at);
     run = λ d ld at. absurd (cell_not_run shape c d p lc lp at);
-    room = λ d ld at. absurd (cell_not_room shape c d p lc lp at);
     decided = λ d ld at. absurd (cell_not_decided shape c d p lc lp at);
+    mark = λ d q ld lq at. absurd (cell_not_mark shape c d p q lc lp at);
   }
 
 -- ---- a word 0 of a wait that began says that it is open

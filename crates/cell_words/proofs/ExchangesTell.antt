@@ -16,18 +16,18 @@ use Rattle.channel_model.specs.Answers.{IsResolvedWait}
 use Rattle.channel_model.proofs.Histories.{LegalFrom-parts}
 use Rattle.channel_model.proofs.GoneForGood.{below_lasts}
 use Rattle.channel_model.proofs.Later.{resolved_later}
-use Rattle.cell_words.specs.declared.cell_word.CellState.TheVariants as state
-use Rattle.cell_words.specs.declared.cell_word.CellWord.{CellWord}
-use Rattle.cell_words.specs.declared.wait_word.WaitWord.{WaitWord}
+use Rattle.word_rules.specs.declared.cell_word.CellState.TheVariants as state
+use Rattle.word_rules.specs.declared.cell_word.CellWord.{CellWord}
+use Rattle.word_rules.specs.declared.wait_word.WaitWord.{WaitWord}
 use Rattle.cell_words.specs.declared.found.Removal.{Removal}
 use Rattle.cell_words.specs.declared.found.Waiter.{Waiter}
-use Rattle.cell_words.specs.Cells.{Cell, receiver, offer, buffered, emptied, cell_of, standing, awaiting, offer_of, offer_by, offer_after, receiver_of, receiver_by, is_used}
-use Rattle.cell_words.specs.Codes.{packed_cell, packed_wait}
-use Rattle.cell_words.specs.Words.{number, plain_word, PartyFits, cell_code, how_word, parts_word, word_of_wait, Fits}
+use Rattle.word_rules.specs.Cells.{Cell, receiver, offer, buffered, emptied, cell_of, standing, awaiting, offer_of, offer_by, offer_after, receiver_of, receiver_by, is_used}
+use Rattle.word_rules.specs.Codes.{packed_cell, packed_wait}
+use Rattle.word_rules.specs.Words.{number, plain_word, PartyFits, cell_code, how_word, parts_word, word_of_wait, Fits, maker}
 use Rattle.worded.specs.Views.{has_tag}
 use Rattle.worded.specs.Histories.{entries_of}
 use Rattle.worded.proofs.TagsAndPrefixes.{entries_of-append}
-use Rattle.cell_words.specs.Seen.{Seen, maker, at_channel, Sees, Makes, Turns, ExchangeAnswer}
+use Rattle.cell_words.specs.Seen.{Seen, at_channel, Sees, Makes, Turns, ExchangeAnswer}
 use Rattle.cell_words.specs.Looks.{lets_stand}
 use Rattle.cell_words.specs.Removals.{removal_act}
 use Rattle.cell_words.specs.Answers.{IsCellWord, IsWaitWord, IsHolder, HandsTo, RemovesFrom, IsAdmitted, IsKept, put, held, stands, WasPut}

@@ -8,7 +8,7 @@ use Rattle.channel_model.specs.declared.standing.Standing.{Standing}
 use Rattle.channel_model.specs.Channels.{Shape, kind_at, suspends}
 use Rattle.channel_model.specs.Needs.{Needs}
 use Rattle.channel_model.specs.Histories.{Legal}
-use Rattle.cell_words.specs.Cells.{Cell, free, receiver, offer, buffered, closed_by, set_cell, standing, emptied_if, emptied_unless, mark, Board, board_from, cell_of}
+use Rattle.word_rules.specs.Cells.{Cell, free, receiver, offer, buffered, closed_by, set_cell, standing, emptied_if, emptied_unless, mark, Board, board_from, cell_of}
 use Rattle.cell_words.proofs.ListsOfCells.{by_spot}
 use Rattle.cell_words.proofs.CellsGiveLists.{BoardLasts, board_lasts}
 

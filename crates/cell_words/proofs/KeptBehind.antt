@@ -25,7 +25,7 @@ use Rattle.channel_model.proofs.GoneForGood.{elsewhere, none_keeps}
 use Rattle.channel_model.proofs.Later.{given_later}
 use Rattle.channel_model.proofs.ResolvedAs.{resolved_step}
 use Rattle.channel_model.proofs.Sound.{Sound, sound}
-use Rattle.cell_words.specs.Cells.{Cell, free, receiver, offer, buffered, emptied, closed_by, voided_by, set_cell, standing, offer_of, offer_by, emptied_if, Board, step_board, blank, cell_of, gather, is_used}
+use Rattle.word_rules.specs.Cells.{Cell, free, receiver, offer, buffered, emptied, closed_by, voided_by, set_cell, standing, offer_of, offer_by, emptied_if, Board, step_board, blank, cell_of, gather, is_used}
 use Rattle.cell_words.specs.Seen.{at_channel}
 use Rattle.cell_words.specs.Answers.{stands, IsOver, waits_with}
 use Rattle.cell_words.proofs.GatheredLists.{all_gather, gather_all}

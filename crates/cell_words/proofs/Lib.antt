@@ -8,7 +8,6 @@ pub mod CellsGiveLists
 pub mod CellsTellFacts
 pub mod CellsLast
 pub mod PlacesWereKept
-pub mod PutWithRoom
 pub mod PlacesDecided
 pub mod OneNumberOneWord
 pub mod CountsOfOffers
@@ -31,6 +30,7 @@ pub mod ChannelsVoided
 pub mod NewHubs
 pub mod TableHoldsChannels
 pub mod ActsOfTags
+pub mod OnTheFirstPart
 pub mod ActsThatRemove
 pub mod OffersUpTo
 pub mod LooksFound

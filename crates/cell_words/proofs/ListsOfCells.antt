@@ -11,7 +11,7 @@ use Rattle.channel_model.specs.declared.standing.Resolution.TheVariants as resol
 use Rattle.channel_model.specs.Channels.{State, Channel, Wait, same_wait}
 use Rattle.channel_model.specs.Effects.{resolve, is_held_by, put_channel, put_wait, resolved_wait}
 use Rattle.channel_model.proofs.Waits.{same_wait-eq, same_wait-refl, one_change}
-use Rattle.cell_words.specs.Cells.{Cell, free, receiver, offer, buffered, emptied, closed_by, voided_by, Cells, spot, set_cell, offer_after, offer_by, offer_of, standing, receiver_by, receiver_of, awaiting, Board, gather, is_used, end_cell}
+use Rattle.word_rules.specs.Cells.{Cell, free, receiver, offer, buffered, emptied, closed_by, voided_by, Cells, spot, set_cell, offer_after, offer_by, offer_of, standing, receiver_by, receiver_of, awaiting, Board, gather, is_used, end_cell}
 use Rattle.cell_words.proofs.GatheredLists.{gather_same, gather_filter, keep}
 
 abbrev pub board : State → Cells → Board

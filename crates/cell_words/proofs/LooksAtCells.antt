@@ -24,31 +24,33 @@ use Rattle.channel_model.proofs.Elements.{all_more}
 use Rattle.channel_model.proofs.GoneForGood.{below_lasts}
 use Rattle.channel_model.proofs.Sound.{sound, EndsResolved}
 use Rattle.channel_model.proofs.Waits.{same_wait-eq, same_wait-refl}
-use Rattle.cell_words.specs.declared.layout.Layout.{Layout}
+use Rattle.word_rules.specs.declared.layout.Layout.{Layout}
 use Rattle.cell_words.specs.declared.hub.Hub.{Hub}
 use Rattle.cell_words.specs.declared.pass.Pass.{Pass}
-use Rattle.cell_words.specs.declared.cell_word.CellState.{CellState}
-use Rattle.cell_words.specs.declared.cell_word.CellState.TheVariants as cell
-use Rattle.cell_words.specs.declared.cell_word.CellWord.{CellWord}
-use Rattle.cell_words.specs.declared.wait_word.WaitWord.{WaitWord}
+use Rattle.word_rules.specs.declared.cell_word.CellState.{CellState}
+use Rattle.word_rules.specs.declared.cell_word.CellState.TheVariants as cell
+use Rattle.word_rules.specs.declared.cell_word.CellWord.{CellWord}
+use Rattle.word_rules.specs.declared.wait_word.WaitWord.{WaitWord}
 use Rattle.cell_words.specs.declared.found.Holder.{Holder}
 use Rattle.cell_words.specs.declared.found.Holder.TheVariants as holder
-use Rattle.cell_words.specs.Codes.{packed_cell}
-use Rattle.cell_words.specs.Cells.{Cell, free, receiver, offer, buffered, emptied, closed_by, voided_by, spot, cell_of, standing, awaiting, is_used}
-use Rattle.cell_words.specs.Words.{number, PartyFits, party_word, word_of_cell, cell_code, CellFits, how_word, parts_word, word_of_wait}
-use Rattle.cell_words.specs.Seen.{Seen, maker, at_channel, Sees, Makes}
-use Rattle.cell_words.specs.Hubs.{shape_of, IsOf}
+use Rattle.word_rules.specs.Codes.{packed_cell}
+use Rattle.word_rules.specs.Cells.{Cell, free, receiver, offer, buffered, emptied, closed_by, voided_by, spot, cell_of, standing, awaiting, is_used}
+use Rattle.word_rules.specs.Words.{number, PartyFits, party_word, word_of_cell, cell_code, CellFits, how_word, parts_word, word_of_wait, maker}
+use Rattle.cell_words.specs.Seen.{Seen, at_channel, Sees, Makes}
+use Rattle.cell_words.specs.Hubs.{shape_of, IsOf, seen_by}
 use Rattle.cell_words.specs.Looks.{holder_of, held_word, waiter_of, is_used_state, found_by_sender, found_by_receiver, end_found, state_found, owner_told}
 use Rattle.cell_words.specs.Answers.{IsCellWord, IsWaitWord, IsHolder, IsHeld, OfferAt, ReceiveAt, EndAt, CloseAt, OwnerAnswer}
 use Rattle.cell_words.proofs.CellsLast.{given_more}
 use Rattle.cell_words.proofs.ListsOfCells.{IsNamed, CellNamed}
 use Rattle.cell_words.proofs.MayExchange.{own_more}
 use Rattle.cell_words.proofs.WaitsAtHome.{HomeOf}
+use Rattle.cell_words.proofs.OnTheFirstPart.{key_on}
 use Rattle.cell_words.proofs.CellsTellFacts.{now, tied_now, used_given, free_end, closed_end, none_line, none_queue, past_receiver, past_offer, end_below, end_at_next}
 
 -- what a pass has seen is legal
-pub hub_legal : (hub : Hub) (pass : Pass) → IsOf hub pass → Legal (shape_of hub) pass.seat.me.0.seen
-hub_legal hub pass of = subst (λ (k : Layout). Legal k.kinds pass.seat.me.0.seen) of.1 pass.legal
+pub hub_legal : (hub : Hub) (pass : Pass) → IsOf hub pass → Legal (shape_of hub) (seen_by pass).seen
+hub_legal hub pass of = subst (λ (k : Layout). Legal k.kinds (seen_by pass).seen) (key_on pass.seat.me.0 hub.table.shared.key of.1)
+    pass.legal
 
 -- ---- what was seen grows
 
@@ -317,46 +319,46 @@ below_seen shape n m c v w s l h = subst (λ (es : List Entry). NoneBelow n m (a
 
 -- what a word says to one who offers, and to one who receives: one that is used, one found in place of a free one, and a free one behind
 -- all places
-module _ (hub : Hub) (pass : Pass) (of : IsOf hub pass) (c p : ℕ) (v : Seen) (s : Sees v pass.seat.me.0) (word : CellWord)
-    (is : IsCellWord (shape_of hub) c p pass.seat.me.0.seen word) where
+module _ (hub : Hub) (pass : Pass) (of : IsOf hub pass) (c p : ℕ) (v : Seen) (s : Sees v (seen_by pass)) (word : CellWord)
+    (is : IsCellWord (shape_of hub) c p (seen_by pass).seen word) where
   pub used_offer : NoneBelow p 0 (at_channel v.seen c) → is_used_state word.state ≡ true → (who value : ℕ)
-      → OfferAt (shape_of hub) who c p value v pass.seat.me.0 (found_by_sender word word.state)
+      → OfferAt (shape_of hub) who c p value v (seen_by pass) (found_by_sender word word.state)
   used_offer low used who value = let l = hub_legal hub pass of in
-      offer_found (shape_of hub) who c p v pass.seat.me.0 s l value (below_seen (shape_of hub) p 0 c v pass.seat.me.0 s l low) word is
+      offer_found (shape_of hub) who c p v (seen_by pass) s l value (below_seen (shape_of hub) p 0 c v (seen_by pass) s l low) word is
       (used_not word.state used)
 
   pub missed_offer : NoneBelow p 0 (at_channel v.seen c) → (old : ℕ) → old ≡ 0 → (packed_cell word ≡ old → ⊥) → (who value : ℕ)
-      → OfferAt (shape_of hub) who c p value v pass.seat.me.0 (found_by_sender word word.state)
+      → OfferAt (shape_of hub) who c p value v (seen_by pass) (found_by_sender word word.state)
   missed_offer low old zero ne who value = let l = hub_legal hub pass of in
-      offer_found (shape_of hub) who c p v pass.seat.me.0 s l value (below_seen (shape_of hub) p 0 c v pass.seat.me.0 s l low) word is
-      (number_not (shape_of hub) c p pass.seat.me.0.seen word old is zero ne)
+      offer_found (shape_of hub) who c p v (seen_by pass) s l value (below_seen (shape_of hub) p 0 c v (seen_by pass) s l low) word is
+      (number_not (shape_of hub) c p (seen_by pass).seen word old is zero ne)
 
   pub spent_offer : NoneBelow p 0 (at_channel v.seen c) → is_used_state word.state ≡ false → p ≡ places_at (shape_of hub) c
-      → Sees v pass.seat.me.0 × IsSpentForOffers (shape_of hub) c (replay pass.seat.me.0.seen)
+      → Sees v (seen_by pass) × IsSpentForOffers (shape_of hub) c (replay (seen_by pass).seen)
   spent_offer low unused all = let l = hub_legal hub pass of in (
     s,
-    offer_spent (shape_of hub) c p pass.seat.me.0.seen l word is (unused_free word.state unused) all
-        (below_seen (shape_of hub) p 0 c v pass.seat.me.0 s l low),
+    offer_spent (shape_of hub) c p (seen_by pass).seen l word is (unused_free word.state unused) all
+        (below_seen (shape_of hub) p 0 c v (seen_by pass) s l low),
   )
 
   pub used_receive : NoneBelow 0 p (at_channel v.seen c) → is_used_state word.state ≡ true → (who : ℕ)
-      → ReceiveAt (shape_of hub) who c p v pass.seat.me.0 (found_by_receiver word word.state)
+      → ReceiveAt (shape_of hub) who c p v (seen_by pass) (found_by_receiver word word.state)
   used_receive low used who = let l = hub_legal hub pass of in
-      receive_found (shape_of hub) who c p v pass.seat.me.0 s l (below_seen (shape_of hub) 0 p c v pass.seat.me.0 s l low) word is
+      receive_found (shape_of hub) who c p v (seen_by pass) s l (below_seen (shape_of hub) 0 p c v (seen_by pass) s l low) word is
       (used_not word.state used)
 
   pub missed_receive : NoneBelow 0 p (at_channel v.seen c) → (old : ℕ) → old ≡ 0 → (packed_cell word ≡ old → ⊥) → (who : ℕ)
-      → ReceiveAt (shape_of hub) who c p v pass.seat.me.0 (found_by_receiver word word.state)
+      → ReceiveAt (shape_of hub) who c p v (seen_by pass) (found_by_receiver word word.state)
   missed_receive low old zero ne who = let l = hub_legal hub pass of in
-      receive_found (shape_of hub) who c p v pass.seat.me.0 s l (below_seen (shape_of hub) 0 p c v pass.seat.me.0 s l low) word is
-      (number_not (shape_of hub) c p pass.seat.me.0.seen word old is zero ne)
+      receive_found (shape_of hub) who c p v (seen_by pass) s l (below_seen (shape_of hub) 0 p c v (seen_by pass) s l low) word is
+      (number_not (shape_of hub) c p (seen_by pass).seen word old is zero ne)
 
   pub spent_receive : NoneBelow 0 p (at_channel v.seen c) → is_used_state word.state ≡ false → p ≡ places_at (shape_of hub) c
-      → Sees v pass.seat.me.0 × IsSpentForReceives (shape_of hub) c (replay pass.seat.me.0.seen)
+      → Sees v (seen_by pass) × IsSpentForReceives (shape_of hub) c (replay (seen_by pass).seen)
   spent_receive low unused all = let l = hub_legal hub pass of in (
     s,
-    receive_spent (shape_of hub) c p pass.seat.me.0.seen l word is (unused_free word.state unused) all
-        (below_seen (shape_of hub) 0 p c v pass.seat.me.0 s l low),
+    receive_spent (shape_of hub) c p (seen_by pass).seen l word is (unused_free word.state unused) all
+        (below_seen (shape_of hub) 0 p c v (seen_by pass) s l low),
   )
 
 pub less_places : (shape : Shape) (c p n : ℕ) → p ≤ places_at shape c → n ≡ places_at shape c → (p ≡ n → ⊥) → p < places_at shape c

@@ -3,14 +3,14 @@ use Rattle.std.proofs.Common.{◌≡◌, ℕ, ◌+◌, ◌≤◌, true, false, N
 use Rattle.channel_model.specs.Channels.{Shape}
 use Rattle.channel_model.specs.Histories.{replay, Legal}
 use Rattle.channel_model.specs.Laws.{NoneBelow}
-use Rattle.cell_words.specs.declared.cell_word.CellState.TheVariants as cell
-use Rattle.cell_words.specs.declared.cell_word.CellWord.{CellWord}
+use Rattle.word_rules.specs.declared.cell_word.CellState.TheVariants as cell
+use Rattle.word_rules.specs.declared.cell_word.CellWord.{CellWord}
 use Rattle.cell_words.specs.declared.found.At.TheVariants as at
 use Rattle.cell_words.specs.declared.hub.Hub.{Hub}
 use Rattle.cell_words.specs.declared.pass.Pass.{Pass}
-use Rattle.cell_words.specs.Hubs.{shape_of, IsOf}
-use Rattle.cell_words.specs.Cells.{Cell, free, receiver, offer, buffered, emptied, closed_by, voided_by, cell_of, standing, awaiting, is_used}
-use Rattle.cell_words.specs.Words.{word_of_cell, CellFits}
+use Rattle.cell_words.specs.Hubs.{shape_of, IsOf, seen_by}
+use Rattle.word_rules.specs.Cells.{Cell, free, receiver, offer, buffered, emptied, closed_by, voided_by, cell_of, standing, awaiting, is_used}
+use Rattle.word_rules.specs.Words.{word_of_cell, CellFits}
 use Rattle.cell_words.specs.Seen.{Seen, at_channel, Sees}
 use Rattle.cell_words.specs.Looks.{is_used_state, found_by_sender, found_by_receiver}
 use Rattle.cell_words.specs.Answers.{IsCellWord, ReceiverAt, SenderAt}
@@ -74,29 +74,29 @@ module _ (shape : Shape) (c p : ℕ) (old new : Seen) (sees : Sees old new) (l :
       (state_free shape c p word (cell_of new.seen c p) is.0 e)).0
 
 -- of a word that a pass loaded: that it is used, or free
-module _ (hub : Hub) (pass : Pass) (of : IsOf hub pass) (c p : ℕ) (v : Seen) (s : Sees v pass.seat.me.0) (word : CellWord)
-    (is : IsCellWord (shape_of hub) c p pass.seat.me.0.seen word) where
+module _ (hub : Hub) (pass : Pass) (of : IsOf hub pass) (c p : ℕ) (v : Seen) (s : Sees v (seen_by pass)) (word : CellWord)
+    (is : IsCellWord (shape_of hub) c p (seen_by pass).seen word) where
   pub receiver_used : NoneBelow p 0 (at_channel v.seen c) → is_used_state word.state ≡ true
-      → ReceiverAt (shape_of hub) c p v pass.seat.me.0 (found_by_sender word word.state)
+      → ReceiverAt (shape_of hub) c p v (seen_by pass) (found_by_sender word word.state)
   receiver_used low used = let l = hub_legal hub pass of
-      in receiver_found (shape_of hub) c p v pass.seat.me.0 s l (below_seen (shape_of hub) p 0 c v pass.seat.me.0 s l low) word is
+      in receiver_found (shape_of hub) c p v (seen_by pass) s l (below_seen (shape_of hub) p 0 c v (seen_by pass) s l low) word is
       (used_not word.state used)
 
   pub receiver_free : NoneBelow p 0 (at_channel v.seen c) → is_used_state word.state ≡ false
-      → ReceiverAt (shape_of hub) c p v pass.seat.me.0 at.Open
+      → ReceiverAt (shape_of hub) c p v (seen_by pass) at.Open
   receiver_free low unused =
       let l = hub_legal hub pass of in
-      let n = receiver_none (shape_of hub) c p v pass.seat.me.0 s l (below_seen (shape_of hub) p 0 c v pass.seat.me.0 s l low) word is
+      let n = receiver_none (shape_of hub) c p v (seen_by pass) s l (below_seen (shape_of hub) p 0 c v (seen_by pass) s l low) word is
       (unused_free word.state unused) in
       (s, n.0, n.1)
 
-  pub sender_used : is_used_state word.state ≡ true → SenderAt (shape_of hub) c p v pass.seat.me.0 (found_by_receiver word word.state)
-  sender_used used = sender_found (shape_of hub) c p v pass.seat.me.0 s (hub_legal hub pass of) word is (used_not word.state used)
+  pub sender_used : is_used_state word.state ≡ true → SenderAt (shape_of hub) c p v (seen_by pass) (found_by_receiver word word.state)
+  sender_used used = sender_found (shape_of hub) c p v (seen_by pass) s (hub_legal hub pass of) word is (used_not word.state used)
 
-  pub sender_free : p ≤ (at_channel v.seen c).next → is_used_state word.state ≡ false → SenderAt (shape_of hub) c p v pass.seat.me.0 at.Open
+  pub sender_free : p ≤ (at_channel v.seen c).next → is_used_state word.state ≡ false → SenderAt (shape_of hub) c p v (seen_by pass) at.Open
   sender_free given unused = let l = hub_legal hub pass of
       in (
         s,
-        sender_none (shape_of hub) c p v pass.seat.me.0 s l (given_seen (shape_of hub) p c v pass.seat.me.0 s l given) word is
+        sender_none (shape_of hub) c p v (seen_by pass) s l (given_seen (shape_of hub) p c v (seen_by pass) s l given) word is
             (unused_free word.state unused),
       )

@@ -17,12 +17,12 @@ use Rattle.channel_model.specs.Answers.{IsOwnWait, IsResolvedWait}
 use Rattle.channel_model.proofs.Others.{others_keep, own_stays}
 use Rattle.channel_model.proofs.GoneForGood.{below_lasts}
 use Rattle.channel_model.proofs.Later.{resolved_later, voided_later}
-use Rattle.cell_words.specs.declared.cell_word.CellState.TheVariants as state
-use Rattle.cell_words.specs.declared.cell_word.CellWord.{CellWord}
-use Rattle.cell_words.specs.Cells.{Cell, free, receiver, offer, buffered, emptied, closed_by, spot, cell_of, standing, offer_of, offer_by, gather, is_used}
-use Rattle.cell_words.specs.Codes.{packed_cell}
-use Rattle.cell_words.specs.Words.{number, cell_number, wait_number, plain_word, PartyFits, CellFits, cell_code, wait_code, how_code}
-use Rattle.cell_words.specs.Seen.{Seen, maker}
+use Rattle.word_rules.specs.declared.cell_word.CellState.TheVariants as state
+use Rattle.word_rules.specs.declared.cell_word.CellWord.{CellWord}
+use Rattle.word_rules.specs.Cells.{Cell, free, receiver, offer, buffered, emptied, closed_by, spot, cell_of, standing, offer_of, offer_by, gather, is_used}
+use Rattle.word_rules.specs.Codes.{packed_cell}
+use Rattle.word_rules.specs.Words.{number, cell_number, wait_number, plain_word, PartyFits, CellFits, cell_code, wait_code, how_code, maker}
+use Rattle.cell_words.specs.Seen.{Seen}
 use Rattle.cell_words.specs.Answers.{MayTurn, IsKept, put, held, stands, MayRemove, MayRemoveHeld, WasPut, WasTooMany}
 use Rattle.cell_words.specs.Removals.{removal_act, how_removed}
 use Rattle.cell_words.specs.declared.found.Removal.{Removal}

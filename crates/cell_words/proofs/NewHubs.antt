@@ -8,8 +8,8 @@ use Rattle.cell_words.specs.Sizes.{AreFirsts}
 use Rattle.std.proofs.Common.{ap, sym, ◌∙◌, subst, arith, get_or, length-append}
 use Rattle.channel_model.specs.Channels.{Shape, empty, places_at}
 use Rattle.channel_model.specs.Histories.{replay_from, Legal, LegalFrom}
-use Rattle.cell_words.specs.Cells.{board_from}
-use Rattle.cell_words.specs.Words.{base, cells_in, word_count, Fits}
+use Rattle.word_rules.specs.Cells.{board_from}
+use Rattle.word_rules.specs.Words.{base, cells_in, word_count, Fits}
 use Rattle.cell_words.proofs.LooksAtCells.{none_below_start}
 use Rattle.cell_words.proofs.PlacesDecided.{decided_none}
 
@@ -25,8 +25,8 @@ all_free shape i = record {
   sends = λ c lc e. none_below_start empty;
   receives = λ c lc e. none_below_start empty;
   run = λ c lc e p le lt. absurd (omega (arith, lt));
-  room = λ c lc e d is. omega arith;
-  decided = λ c lc e. decided_none [] c ((0 / 2097152) % 2097152) (0 / 4398046511104) (0 % 2097152) (omega arith) (omega arith);
+  decided = λ c lc e. decided_none shape [] c ((0 / 2097152) % 2097152) (0 / 4398046511104) (0 % 2097152) (omega arith) (omega arith);
+  mark = λ c p lc lp e b told. cc;
 }
 
 -- ---- the numbers of first cells
@@ -57,7 +57,7 @@ base_below (x ∷ xs) (suc i) lt = let h = base_below xs i (omega arith) in let 
 
 -- as many words as are asked for
 pub count_is : (shape kinds : Shape) (cells i : ℕ) → shape ≡ kinds → cells ≡ cells_in kinds → i < word_count shape
-    → i < 2 * cells + 16 * length kinds + 1
+    → i < 3 * cells + 16 * length kinds + 1
 count_is shape kinds cells i same total h = let a = ap cells_in same in let b = ap (λ (s : Shape). length s) same in omega arith
 
 pub no_firsts : (shape : Shape) (firsts : List ℕ) → firsts ≡ [] → AreFirsts shape 0 firsts

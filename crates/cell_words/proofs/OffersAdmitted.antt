@@ -12,7 +12,7 @@ use Rattle.channel_model.specs.Channels.{Wait, same_wait, is_full}
 use Rattle.channel_model.specs.Effects.{resolve, resolve_holder, with_queue, put_wait, resolved_wait, admitted, holder_at}
 use Rattle.channel_model.specs.Needs.{MayBeAdmitted}
 use Rattle.channel_model.proofs.Waits.{at_wait, one_change}
-use Rattle.cell_words.specs.Cells.{free, offer, spot, offer_after, offer_of, offer_by, standing, awaiting, Board, add_some, gather, is_used, end_cell}
+use Rattle.word_rules.specs.Cells.{free, offer, spot, offer_after, offer_of, offer_by, standing, awaiting, Board, add_some, gather, is_used, end_cell}
 use Rattle.cell_words.proofs.GatheredLists.{gather_same, gather_filter, gather_in, keep}
 use Rattle.cell_words.proofs.ListsOfCells.{board, IsNamed, CellNamed, NamesAt, IsAtOwnClause, Tied, by_channel, not_held, not_mine, resolve_point, resolve_dot, named_resolved, cell_named, IsOffer, held, kept_here, standing_is}
 use Rattle.cell_words.proofs.OffersRemoved.{offer_place}

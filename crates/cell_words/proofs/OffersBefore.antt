@@ -14,7 +14,7 @@ use Rattle.channel_model.specs.Owing.{owes_spurn_at}
 use Rattle.channel_model.specs.Answers.{StandsWithRoom}
 use Rattle.channel_model.proofs.Elements.{all_first, all_rest}
 use Rattle.channel_model.proofs.Stood.{replay_over, stood_later}
-use Rattle.cell_words.specs.Cells.{cell_of, gather, add_some}
+use Rattle.word_rules.specs.Cells.{cell_of, gather, add_some}
 use Rattle.cell_words.specs.Seen.{Seen, Sees, at_channel}
 use Rattle.cell_words.specs.Answers.{stands, WasTooMany}
 use Rattle.cell_words.proofs.ListsOfCells.{standing_is}

@@ -16,10 +16,10 @@ use Rattle.channel_model.specs.Needs.{MayBeAdmitted}
 use Rattle.channel_model.specs.Histories.{replay, Legal}
 use Rattle.channel_model.specs.Answers.{IsResolvedWait, owner_of, owner_of_holder}
 use Rattle.cell_words.specs.declared.found.Waiter.{Waiter}
-use Rattle.cell_words.specs.declared.wait_word.WaitWord.{WaitWord}
-use Rattle.cell_words.specs.Cells.{offer, cell_of, standing, offer_of, offer_by, gather, add_some, is_used}
-use Rattle.cell_words.specs.Codes.{packed_wait}
-use Rattle.cell_words.specs.Words.{number, wait_number, PartyFits, wait_code, how_code, Fits}
+use Rattle.word_rules.specs.declared.wait_word.WaitWord.{WaitWord}
+use Rattle.word_rules.specs.Cells.{offer, cell_of, standing, offer_of, offer_by, gather, add_some, is_used}
+use Rattle.word_rules.specs.Codes.{packed_wait}
+use Rattle.word_rules.specs.Words.{number, wait_number, PartyFits, wait_code, how_code, Fits}
 use Rattle.cell_words.specs.Seen.{Seen, at_channel, Sees, Turns}
 use Rattle.cell_words.specs.Looks.{lets_stand, admission_by, admission_found}
 use Rattle.cell_words.specs.Answers.{MayTurn, IsWaitWord, Offers, Admits, AdmitAt, stands}

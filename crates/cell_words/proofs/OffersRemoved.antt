@@ -11,7 +11,7 @@ use Rattle.channel_model.specs.Channels.{State, Channel, Wait, same_wait}
 use Rattle.channel_model.specs.Effects.{resolve, resolve_first, resolve_holder, resolve_offer, remove_first, with_queue, without, is_held_by, put_channel, put_wait, resolved_wait}
 use Rattle.channel_model.specs.Needs.{IsFirstOffer, IsOpenOf}
 use Rattle.channel_model.proofs.Waits.{same_wait-refl}
-use Rattle.cell_words.specs.Cells.{Cell, emptied, Cells, set_cell, standing, awaiting, emptied_unless, emptied_if, Board, gather, is_used, end_cell}
+use Rattle.word_rules.specs.Cells.{Cell, emptied, Cells, set_cell, standing, awaiting, emptied_unless, emptied_if, Board, gather, is_used, end_cell}
 use Rattle.cell_words.proofs.GatheredLists.{gather_same, gather_first, gather_head}
 use Rattle.cell_words.proofs.ListsOfCells.{board, NamesAt, CellNamed, Tied, ties_change, ties_resolve, Final, IsReceiver, awaiting_is, IsOffer, held, kept_here, standing_is, cell_here, cell_else, set_same, by_channel}
 

@@ -12,7 +12,7 @@ use Rattle.channel_model.specs.Effects.{with_queue, is_elsewhere, spurned}
 use Rattle.channel_model.specs.Needs.{IsOfferAt}
 use Rattle.channel_model.proofs.Elements.{all_first, all_rest}
 use Rattle.channel_model.proofs.GoneForGood.{elsewhere}
-use Rattle.cell_words.specs.Cells.{Cell, emptied, set_cell, standing, awaiting, emptied_unless, emptied_if, Board, add_some, gather, is_used}
+use Rattle.word_rules.specs.Cells.{Cell, emptied, set_cell, standing, awaiting, emptied_unless, emptied_if, Board, add_some, gather, is_used}
 use Rattle.cell_words.proofs.GatheredLists.{gather_same, gather_in, gather_all, all_gather, gather_filter, keep}
 use Rattle.cell_words.proofs.ListsOfCells.{board, Tied, ties_change, IsOffer, held, kept_here, standing_is, cell_here, cell_else}
 use Rattle.cell_words.proofs.OffersRemoved.{offer_place}

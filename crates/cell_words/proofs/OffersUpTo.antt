@@ -9,7 +9,7 @@ use Rattle.channel_model.specs.Histories.{replay, Legal}
 use Rattle.channel_model.specs.Laws.{NoneBelow}
 use Rattle.channel_model.specs.Owing.{offers_up_to}
 use Rattle.channel_model.specs.Answers.{IsTrimmed}
-use Rattle.cell_words.specs.Cells.{cell_of, gather, add_some}
+use Rattle.word_rules.specs.Cells.{cell_of, gather, add_some}
 use Rattle.cell_words.specs.Seen.{Seen, Sees, at_channel}
 use Rattle.cell_words.specs.Answers.{stands, IsOver}
 use Rattle.cell_words.proofs.ListsOfCells.{standing_is}

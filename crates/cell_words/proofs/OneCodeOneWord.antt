@@ -1,13 +1,13 @@
 -- Two words with one number are one word.
 use Rattle.std.specs.Prelude.{◌≡◌, ℕ, ◌+◌, ◌*◌, ◌==◌, ◌<◌, Bool, true, false, if◌then◌else◌, refl}
 use Rattle.std.proofs.Common.{sym, ap, ◌∙◌, arith}
-use Rattle.cell_words.specs.declared.cell_word.CellState.{CellState}
-use Rattle.cell_words.specs.declared.cell_word.CellState.TheVariants.{Free, Receiver, Offer, Buffered, Emptied, Closed, Voided}
-use Rattle.cell_words.specs.declared.cell_word.CellWord.{CellWord}
-use Rattle.cell_words.specs.declared.wait_word.ResolvedBy.{ResolvedBy}
-use Rattle.cell_words.specs.declared.wait_word.ResolvedBy.TheVariants.{Nobody, Hand, Take, Admit, Close, Cancel, Revoke, Void}
-use Rattle.cell_words.specs.declared.wait_word.WaitWord.{WaitWord}
-use Rattle.cell_words.specs.Codes.{bit, state_code, packed_cell, IsNarrowCell, resolver_code, packed_wait, IsNarrowWait}
+use Rattle.word_rules.specs.declared.cell_word.CellState.{CellState}
+use Rattle.word_rules.specs.declared.cell_word.CellState.TheVariants.{Free, Receiver, Offer, Buffered, Emptied, Closed, Voided}
+use Rattle.word_rules.specs.declared.cell_word.CellWord.{CellWord}
+use Rattle.word_rules.specs.declared.wait_word.ResolvedBy.{ResolvedBy}
+use Rattle.word_rules.specs.declared.wait_word.ResolvedBy.TheVariants.{Nobody, Hand, Take, Admit, Close, Cancel, Revoke, Void}
+use Rattle.word_rules.specs.declared.wait_word.WaitWord.{WaitWord}
+use Rattle.word_rules.specs.Codes.{bit, state_code, packed_cell, IsNarrowCell, resolver_code, packed_wait, IsNarrowWait}
 
 bit_is : (a b : Bool) → bit a ≡ bit b → a ≡ b
 bit_is false false e = refl

@@ -1,7 +1,7 @@
 -- The numbers of words are apart.
 use Rattle.std.proofs.Common.{◌≡◌, ℕ, zero, suc, ◌+◌, ◌*◌, ◌<◌, ◌≤◌, [], ◌∷◌, length, refl, ap, arith}
 use Rattle.channel_model.specs.Channels.{Shape, places_at}
-use Rattle.cell_words.specs.Words.{cells_in, number, cell_number, wait_number, send_number, receive_number, run_number, room_number, decided_number, word_count}
+use Rattle.word_rules.specs.Words.{cells_in, number, cell_number, wait_number, send_number, receive_number, run_number, decided_number, mark_number, word_count}
 
 pub number_apart : (shape : Shape) (c d p q : ℕ) → c < length shape → d < length shape → p ≤ places_at shape c → q ≤ places_at shape d
     → number shape c p ≡ number shape d q → (c ≡ d) × (p ≡ q)
@@ -48,12 +48,6 @@ cell_not_run shape c d p lc lp e = let h = number_within shape c p lc lp in omeg
 pub wait_not_run : (shape : Shape) (c d p : ℕ) → c < length shape → p ≤ places_at shape c → wait_number shape c p ≡ run_number shape d → ⊥
 wait_not_run shape c d p lc lp e = let h = number_within shape c p lc lp in omega arith
 
-pub cell_not_room : (shape : Shape) (c d p : ℕ) → c < length shape → p ≤ places_at shape c → cell_number shape c p ≡ room_number shape d → ⊥
-cell_not_room shape c d p lc lp e = let h = number_within shape c p lc lp in omega arith
-
-pub wait_not_room : (shape : Shape) (c d p : ℕ) → wait_number shape c p ≡ room_number shape d → ⊥
-wait_not_room shape c d p e = omega arith
-
 pub cell_not_decided : (shape : Shape) (c d p : ℕ) → c < length shape → p ≤ places_at shape c
     → cell_number shape c p ≡ decided_number shape d
     → ⊥
@@ -63,3 +57,22 @@ pub wait_not_decided : (shape : Shape) (c d p : ℕ) → c < length shape → p 
     → wait_number shape c p ≡ decided_number shape d
     → ⊥
 wait_not_decided shape c d p lc lp e = let h = number_within shape c p lc lp in omega arith
+
+pub cell_not_mark : (shape : Shape) (c d p q : ℕ) → c < length shape → p ≤ places_at shape c → cell_number shape c p ≡ mark_number shape d q
+    → ⊥
+cell_not_mark shape c d p q lc lp e = let h = number_within shape c p lc lp in omega arith
+
+pub wait_not_mark : (shape : Shape) (c d p q : ℕ) → c < length shape → p ≤ places_at shape c → wait_number shape c p ≡ mark_number shape d q
+    → ⊥
+wait_not_mark shape c d p q lc lp e = let h = number_within shape c p lc lp in omega arith
+
+pub mark_within : (shape : Shape) (c p : ℕ) → c < length shape → p ≤ places_at shape c → mark_number shape c p < word_count shape
+mark_within shape c p lc lp = let h = number_within shape c p lc lp in omega arith
+
+pub same_mark : (shape : Shape) (c d p q : ℕ) → c < length shape → d < length shape → p ≤ places_at shape c → q ≤ places_at shape d
+    → mark_number shape c p ≡ mark_number shape d q → (c ≡ d) × (p ≡ q)
+same_mark shape c d p q lc ld lp lq e = number_apart shape c d p q lc ld lp lq (omega arith)
+
+pub few_channels : (shape : Shape) → length shape ≤ cells_in shape
+few_channels [] = omega arith
+few_channels (x ∷ xs) = let h = few_channels xs in omega arith

@@ -23,14 +23,14 @@ use Rattle.channel_model.proofs.Resolutions.{always_keeps}
 use Rattle.channel_model.proofs.Firsts.{may_settle}
 use Rattle.channel_model.proofs.Sound.{lasts}
 use Rattle.channel_model.proofs.Later.{resolved_later}
-use Rattle.cell_words.specs.declared.wait_word.WaitWord.{WaitWord}
-use Rattle.cell_words.specs.Cells.{spot}
-use Rattle.cell_words.specs.Codes.{packed_wait}
-use Rattle.cell_words.specs.Words.{number, wait_number, how_word, parts_word, word_of_wait, settled_word, how_code, HowFits, PartsFit, WaitFits, HasWaitCode, Fits}
-use Rattle.cell_words.specs.Seen.{Seen, maker, Sees, Makes}
+use Rattle.word_rules.specs.declared.wait_word.WaitWord.{WaitWord}
+use Rattle.word_rules.specs.Cells.{spot}
+use Rattle.word_rules.specs.Codes.{packed_wait}
+use Rattle.word_rules.specs.Words.{number, wait_number, how_word, parts_word, word_of_wait, settled_word, how_code, HowFits, PartsFit, WaitFits, HasWaitCode, Fits, maker}
+use Rattle.cell_words.specs.Seen.{Seen, Sees, Makes}
 use Rattle.cell_words.specs.declared.hub.Hub.{Hub}
 use Rattle.cell_words.specs.declared.pass.Pass.{Pass}
-use Rattle.cell_words.specs.Hubs.{shape_of, IsOf}
+use Rattle.cell_words.specs.Hubs.{shape_of, IsOf, seen_by}
 use Rattle.cell_words.proofs.LooksAtCells.{hub_legal}
 use Rattle.cell_words.specs.Looks.{resolution_found}
 use Rattle.cell_words.specs.Answers.{IsWaitWord, WaitAnswer, MayTurn}
@@ -99,12 +99,12 @@ ready_word who cancelled word (Some x) h e f = by_how x.resolved refl h.1
 
 -- and at a look
 pub ready_found : (hub : Hub) (pass : Pass) → IsOf hub pass → (who : ℕ) (w : WaitId) (cancelled : Bool) (u : Seen)
-    → has_tag who u.tags ≡ true → Sees u pass.seat.me.0 → IsReadyWait who ((replay u.seen).waits w) → (word : WaitWord)
-    → IsWaitWord w pass.seat.me.0.seen word
-    → IsReadyWait who ((replay pass.seat.me.0.seen).waits w) × ReadyWord cancelled word ((replay pass.seat.me.0.seen).waits w)
+    → has_tag who u.tags ≡ true → Sees u (seen_by pass) → IsReadyWait who ((replay u.seen).waits w) → (word : WaitWord)
+    → IsWaitWord w (seen_by pass).seen word
+    → IsReadyWait who ((replay (seen_by pass).seen).waits w) × ReadyWord cancelled word ((replay (seen_by pass).seen).waits w)
 ready_found hub pass of who w cancelled u tag s ready word is =
-    let later = ready_seen (shape_of hub) who w u pass.seat.me.0 tag s (hub_legal hub pass of) ready in
-    (later, ready_word who cancelled word ((replay pass.seat.me.0.seen).waits w) later is.0 is.1)
+    let later = ready_seen (shape_of hub) who w u (seen_by pass) tag s (hub_legal hub pass of) ready in
+    (later, ready_word who cancelled word ((replay (seen_by pass).seen).waits w) later is.0 is.1)
 
 outcome_as : (how : Resolution) (cancelled : Bool) (y : Option Wait) → IsResolvedAs how y
     → outcome_at cancelled y ≡ Some (outcome_of how cancelled)

@@ -1,23 +1,73 @@
 -- A place of which is decided whether its element was kept stays as it was decided, and so does a count of such places.
-use Rattle.std.proofs.Common.{◌≡◌, ◌⊎◌, ℕ, zero, suc, ◌+◌, ◌==◌, Bool, true, false, List, ◌++◌, if◌then◌else◌, Option, Some, None, sym, refl, ap, ◌∙◌, subst, ⊎_elim, inl, inr, arith, eq-eqb}
+use Rattle.std.proofs.Common.{◌≡◌, ◌⊎◌, ℕ, zero, suc, ◌+◌, ◌==◌, Bool, true, false, true≢false, not, List, ◌++◌, if◌then◌else◌, Option, Some, None, sym, refl, ap, ◌∙◌, subst, ⊎_elim, inl, inr, arith, eq-eqb}
 use Rattle.std.proofs.lemmas.Bool.{eqb-true}
 use Rattle.co_base.specs.declared.names.WaitId.{WaitId}
 use Rattle.channel_model.specs.declared.acts.Entry.{Entry}
 use Rattle.channel_model.specs.declared.standing.Resolution.{Resolution}
 use Rattle.channel_model.specs.declared.standing.Resolution.TheVariants as resolved
-use Rattle.channel_model.specs.Channels.{Shape, State, Wait}
+use Rattle.channel_model.specs.Channels.{Shape, State, Wait, start, kind_at, suspends, spurns}
 use Rattle.channel_model.specs.Effects.{after}
 use Rattle.channel_model.specs.Needs.{Needs}
-use Rattle.channel_model.specs.Histories.{replay, Legal}
+use Rattle.channel_model.specs.Histories.{replay, replay_from, Legal, LegalFrom}
 use Rattle.channel_model.specs.Laws.{IsResolvedAs}
+use Rattle.channel_model.proofs.Histories.{LegalFrom-parts}
 use Rattle.channel_model.proofs.Later.{resolved_later}
 use Rattle.channel_model.proofs.ResolvedAs.{resolved_lasts}
 use Rattle.channel_model.proofs.Sound.{Sound}
-use Rattle.cell_words.specs.Cells.{Cell, free, receiver, offer, buffered, emptied, closed_by, voided_by, standing, offer_of, offer_by, offer_after, emptied_if, mark, Board, blank, cell_of, is_used}
-use Rattle.cell_words.specs.Words.{one_if, kept_after, kept_by, kept_of, kept_in, fate, add_kept, kept_among, WereDecided}
+use Rattle.channel_model.proofs.Stood.{stood_later}
+use Rattle.word_rules.specs.Cells.{Cell, free, receiver, offer, buffered, emptied, closed_by, voided_by, standing, offer_of, offer_by, offer_after, emptied_if, mark, Board, blank, cell_of, is_used}
+use Rattle.word_rules.specs.Words.{one_if, kept_after, kept_by, kept_of, kept_put, kept_in, was_over, fate, add_kept, kept_among, WereDecided, IsMark}
 use Rattle.cell_words.proofs.ListsOfCells.{Tied}
-use Rattle.cell_words.proofs.CellsGiveLists.{board_lasts, board_state}
+use Rattle.cell_words.proofs.CellsGiveLists.{BoardLasts, board_lasts, board_state}
 use Rattle.cell_words.proofs.CellsLast.{used_stays, kept_more}
+use Rattle.cell_words.proofs.CellsTellFacts.{now, tied_now, used_given}
+use Rattle.cell_words.proofs.HeldWhereSendsWait.{is_offer, never_held}
+use Rattle.cell_words.proofs.KeptBehind.{waits_keeps}
+
+-- ---- tests
+
+pub one_true : (b : Bool) → b ≡ true → one_if b ≡ 1
+one_true true e = refl
+one_true false e = cc
+
+pub one_false : (b : Bool) → b ≡ false → one_if b ≡ 0
+one_false true e = cc
+one_false false e = refl
+
+put_true : (o b : Bool) → kept_put o ≡ Some b → Some (not o) ≡ Some b
+put_true true b e = cc
+put_true false b e = e
+
+-- ---- whether an element was one too many stays
+
+legal_before : (shape : Shape) (xs ys : List Entry) → Legal shape (xs ++ ys) → Legal shape xs
+unfolding replay_from LegalFrom
+legal_before shape xs ys l = (LegalFrom-parts shape start xs ys l).0
+
+over_more : (shape : Shape) (c p : ℕ) (xs ys : List Entry) → Legal shape (xs ++ ys) → is_used (cell_of xs c p) ≡ true
+    → was_over shape (xs ++ ys) c p ≡ was_over shape xs c p
+over_more shape c p xs ys l used = ap (spurns (kind_at shape c))
+    (stood_later shape xs ys c p l (used_given (now xs) c p (tied_now shape xs (legal_before shape xs ys l)) used))
+
+-- an offer that waits is none
+never_over : (shape : Shape) (c p v who k : ℕ) (w : WaitId) (log : List Entry) → Legal shape log → cell_of log c p ≡ offer v who w k
+    → (n : ℕ) → spurns (kind_at shape c) n ≡ false
+never_over shape c p v who k w log l e = go (suspends (kind_at shape c)) refl
+  where
+    go : (b : Bool) → suspends (kind_at shape c) ≡ b → (n : ℕ) → spurns (kind_at shape c) n ≡ false
+    go true h = waits_keeps (kind_at shape c) h
+    go false h = absurd (true≢false (sym (ap is_offer e) ∙ never_held shape c p h log l))
+
+-- an element that was removed stays so
+removed_lasts : (shape : Shape) (c p v : ℕ) → BoardLasts shape (λ b. b.cells c p ≡ emptied v)
+removed_lasts shape c p v = record {
+  step = λ b e s t n h. used_stays shape (λ y. y ≡ emptied v) b e c p t n (ap is_used h) h
+      (λ q is. ap (λ (y : Cell). emptied_if (standing b.state.waits q y) y) is);
+}
+
+removed_more : (shape : Shape) (c p v : ℕ) (xs ys : List Entry) → Legal shape (xs ++ ys) → cell_of xs c p ≡ emptied v
+    → cell_of (xs ++ ys) c p ≡ emptied v
+removed_more shape c p v xs ys l h = board_lasts shape (λ b. b.cells c p ≡ emptied v) (removed_lasts shape c p v) xs ys l h
 
 -- ---- a held offer's cell is emptied only after it was admitted
 
@@ -105,32 +155,41 @@ same_clause k = eq-eqb k k refl
 
 -- an offer's cell, and what its wait says later
 pub offer_fate : (shape : Shape) (c p v who k : ℕ) (w : WaitId) (b : Bool) (xs ys : List Entry) → Legal shape (xs ++ ys)
-    → cell_of xs c p ≡ offer v who w k → kept_of k ((replay (xs ++ ys)).waits w) ≡ Some b → fate (xs ++ ys) c p ≡ Some b
-offer_fate shape c p v who k w b xs ys l e h = ⊎_elim
-    (λ (x : cell_of (xs ++ ys) c p ≡ offer v who w k). ap (kept_in (replay (xs ++ ys)).waits) x ∙ h)
+    → cell_of xs c p ≡ offer v who w k → kept_of k ((replay (xs ++ ys)).waits w) ≡ Some b → fate shape (xs ++ ys) c p ≡ Some b
+offer_fate shape c p v who k w b xs ys l e h =
+    let over = never_over shape c p v who k w xs (legal_before shape xs ys l) e ((replay (xs ++ ys)).stood c p) in ⊎_elim
+    (λ (x : cell_of (xs ++ ys) c p ≡ offer v who w k). ap (kept_in (was_over shape (xs ++ ys) c p) (replay (xs ++ ys)).waits) x ∙ h)
     (λ (x : (cell_of (xs ++ ys) c p ≡ emptied v) × IsResolvedAs (resolved.Admitted k) ((replay (xs ++ ys)).waits w)).
-    ap (kept_in (replay (xs ++ ys)).waits) x.0 ∙ (ap (λ (z : Bool). Some z) (sym (same_clause k))
-    ∙ (sym (kept_is k (resolved.Admitted k) ((replay (xs ++ ys)).waits w) x.1) ∙ h)))
+    ap (kept_in (was_over shape (xs ++ ys) c p) (replay (xs ++ ys)).waits) x.0 ∙ (ap (λ (z : Bool). Some (not z)) over
+    ∙ (ap (λ (z : Bool). Some z) (sym (same_clause k))
+    ∙ (sym (kept_is k (resolved.Admitted k) ((replay (xs ++ ys)).waits w) x.1) ∙ h))))
     (held_more_admitted shape c p v who w k xs ys l e)
 
 fate_more : (shape : Shape) (c p : ℕ) (b : Bool) (xs ys : List Entry) → Legal shape (xs ++ ys) → (y : Cell) → cell_of xs c p ≡ y
-    → kept_in (replay xs).waits y ≡ Some b → fate (xs ++ ys) c p ≡ Some b
+    → kept_in (was_over shape xs c p) (replay xs).waits y ≡ Some b → fate shape (xs ++ ys) c p ≡ Some b
 fate_more shape c p b xs ys l free e h = cc
 fate_more shape c p b xs ys l (receiver who w k) e h = cc
 fate_more shape c p b xs ys l (offer v who w k) e h =
     let r = kept_resolved k b ((replay xs).waits w) h in
     offer_fate shape c p v who k w b xs ys l e
     (kept_is k r.how ((replay (xs ++ ys)).waits w) (resolved_later shape xs ys w r.how l r.is) ∙ ap (λ (z : Bool). Some z) r.so)
-fate_more shape c p b xs ys l (buffered v) e h = ⊎_elim
-    (λ (x : cell_of (xs ++ ys) c p ≡ buffered v). ap (kept_in (replay (xs ++ ys)).waits) x ∙ h)
-    (λ (x : cell_of (xs ++ ys) c p ≡ emptied v). ap (kept_in (replay (xs ++ ys)).waits) x ∙ h)
+fate_more shape c p b xs ys l (buffered v) e h =
+    let over = over_more shape c p xs ys l (ap is_used e) in ⊎_elim
+    (λ (x : cell_of (xs ++ ys) c p ≡ buffered v). ap (kept_in (was_over shape (xs ++ ys) c p) (replay (xs ++ ys)).waits) x
+    ∙ (ap kept_put over ∙ h))
+    (λ (x : cell_of (xs ++ ys) c p ≡ emptied v). ap (kept_in (was_over shape (xs ++ ys) c p) (replay (xs ++ ys)).waits) x
+    ∙ (ap (λ (z : Bool). Some (not z)) over ∙ put_true (was_over shape xs c p) b h))
     (kept_more shape c p v xs ys l (inl e))
-fate_more shape c p b xs ys l (emptied v) e h = ⊎_elim
-    (λ (x : cell_of (xs ++ ys) c p ≡ buffered v). ap (kept_in (replay (xs ++ ys)).waits) x ∙ h)
-    (λ (x : cell_of (xs ++ ys) c p ≡ emptied v). ap (kept_in (replay (xs ++ ys)).waits) x ∙ h)
-    (kept_more shape c p v xs ys l (inr e))
+fate_more shape c p b xs ys l (emptied v) e h =
+    ap (kept_in (was_over shape (xs ++ ys) c p) (replay (xs ++ ys)).waits) (removed_more shape c p v xs ys l e)
+    ∙ (ap (λ (z : Bool). Some (not z)) (over_more shape c p xs ys l (ap is_used e)) ∙ h)
 fate_more shape c p b xs ys l (closed_by v) e h = cc
 fate_more shape c p b xs ys l (voided_by v) e h = cc
+
+-- so does what a mark says
+pub mark_more : (shape : Shape) (c p n : ℕ) (xs ys : List Entry) → Legal shape (xs ++ ys) → IsMark shape xs c p n
+    → IsMark shape (xs ++ ys) c p n
+mark_more shape c p n xs ys l h b e = fate_more shape c p b xs ys l (cell_of xs c p) refl (h b e)
 
 -- ---- counts of them
 
@@ -169,11 +228,12 @@ kept_among_more f g more from (suc n) count h =
     (kept_among_more f g more from n s.rest s.before) s.sum
 
 pub were_decided_more : (shape : Shape) (c from to count : ℕ) (xs ys : List Entry) → Legal shape (xs ++ ys)
-    → WereDecided xs c from to count → WereDecided (xs ++ ys) c from to count
-were_decided_more shape c from to count xs ys l h d e = kept_among_more (fate xs c) (fate (xs ++ ys) c)
+    → WereDecided shape xs c from to count → WereDecided shape (xs ++ ys) c from to count
+were_decided_more shape c from to count xs ys l h d e = kept_among_more (fate shape xs c) (fate shape (xs ++ ys) c)
     (λ q b k. fate_more shape c q b xs ys l (cell_of xs c q) refl k) from d count (h d e)
 
 -- nothing is counted yet
-pub decided_none : (log : List Entry) (c from to count : ℕ) → from ≡ to → count ≡ 0 → WereDecided log c from to count
-decided_none log c from to count same none zero e = ap (λ (z : ℕ). Some z) (sym none)
-decided_none log c from to count same none (suc d) e = absurd (omega arith)
+pub decided_none : (shape : Shape) (log : List Entry) (c from to count : ℕ) → from ≡ to → count ≡ 0
+    → WereDecided shape log c from to count
+decided_none shape log c from to count same none zero e = ap (λ (z : ℕ). Some z) (sym none)
+decided_none shape log c from to count same none (suc d) e = absurd (omega arith)

@@ -14,7 +14,7 @@ use Rattle.channel_model.specs.Effects.{put_channel, put_wait, name_clause, sett
 use Rattle.channel_model.specs.Needs.{HasPlace, MayName, JoinsWait}
 use Rattle.channel_model.proofs.Waits.{same_wait-eq, at_wait, one_change}
 use Rattle.channel_model.proofs.Placed.{Placed}
-use Rattle.cell_words.specs.Cells.{Cell, free, receiver, offer, buffered, spot, set_cell, offer_by, offer_of, standing, receiver_by, receiver_of, awaiting, Board, add_some, is_used, end_cell}
+use Rattle.word_rules.specs.Cells.{Cell, free, receiver, offer, buffered, spot, set_cell, offer_by, offer_of, standing, receiver_by, receiver_of, awaiting, Board, add_some, is_used, end_cell}
 use Rattle.cell_words.proofs.GatheredLists.{gather_push}
 use Rattle.cell_words.proofs.ListsOfCells.{board, IsNamed, CellNamed, NamesAt, AdmittedAmong, IsAtOwnClause, Tied, ChannelTied, Unmoved, ties_change, ties_waits, cell_here, cell_else}
 

@@ -5,8 +5,8 @@ use Rattle.channel_model.specs.declared.standing.Resolution.TheVariants as resol
 use Rattle.channel_model.specs.Channels.{Shape}
 use Rattle.channel_model.specs.Histories.{replay, Legal}
 use Rattle.channel_model.proofs.Later.{resolved_later}
-use Rattle.cell_words.specs.Cells.{Cell, free, receiver, offer, buffered, emptied, closed_by, voided_by, cell_of}
-use Rattle.cell_words.specs.Words.{WasKept, WereKept}
+use Rattle.word_rules.specs.Cells.{Cell, free, receiver, offer, buffered, emptied, closed_by, voided_by, cell_of}
+use Rattle.word_rules.specs.Words.{WasKept, WereKept}
 use Rattle.cell_words.proofs.CellsLast.{offer_used_more, kept_more}
 
 was_kept_more : (shape : Shape) (c p : ℕ) (xs ys : List Entry) → Legal shape (xs ++ ys) → (y : Cell) → cell_of xs c p ≡ y

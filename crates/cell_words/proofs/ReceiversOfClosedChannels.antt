@@ -14,8 +14,8 @@ use Rattle.channel_model.specs.Answers.{first_receiver, owner_of}
 use Rattle.channel_model.specs.Laws.{NoneBelow}
 use Rattle.channel_model.proofs.GoneForGood.{below_lasts}
 use Rattle.channel_model.proofs.Later.{closed_later}
-use Rattle.cell_words.specs.Cells.{receiver, cell_of, awaiting, receiver_of, receiver_by, is_used}
-use Rattle.cell_words.specs.Words.{number, wait_number, PartyFits, wait_code, how_code, Fits}
+use Rattle.word_rules.specs.Cells.{receiver, cell_of, awaiting, receiver_of, receiver_by, is_used}
+use Rattle.word_rules.specs.Words.{number, wait_number, PartyFits, wait_code, how_code, Fits}
 use Rattle.cell_words.specs.Seen.{Seen, at_channel, Sees, Turns}
 use Rattle.cell_words.specs.Answers.{MayTurn, Wakes}
 use Rattle.cell_words.proofs.ListsOfCells.{CellNamed}

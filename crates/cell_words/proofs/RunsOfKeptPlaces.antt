@@ -17,10 +17,10 @@ use Rattle.channel_model.specs.Histories.{replay, replay_from, Legal, LegalFrom}
 use Rattle.channel_model.specs.Laws.{NoneBelow, IsResolvedAs}
 use Rattle.channel_model.proofs.Histories.{replay_push, LegalFrom-parts}
 use Rattle.channel_model.proofs.Waits.{at_wait}
-use Rattle.cell_words.specs.declared.cell_word.CellWord.{CellWord}
-use Rattle.cell_words.specs.Cells.{Cell, free, receiver, offer, buffered, emptied, closed_by, voided_by, Board, board_of, cell_of, gather}
+use Rattle.word_rules.specs.declared.cell_word.CellWord.{CellWord}
+use Rattle.word_rules.specs.Cells.{Cell, free, receiver, offer, buffered, emptied, closed_by, voided_by, Board, board_of, cell_of, gather}
 use Rattle.cell_words.specs.Puts.{was_put}
-use Rattle.cell_words.specs.Words.{word_of_cell, WasKept, WereKept}
+use Rattle.word_rules.specs.Words.{word_of_cell, WasKept, WereKept}
 use Rattle.cell_words.specs.Seen.{Seen, Sees, Makes, at_channel}
 use Rattle.cell_words.specs.Answers.{stands, IsCellWord, IsOver, Admits}
 use Rattle.cell_words.proofs.GatheredLists.{gather_in, gather_none}

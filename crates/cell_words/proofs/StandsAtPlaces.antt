@@ -17,14 +17,14 @@ use Rattle.channel_model.specs.Registers.{StandsOffer}
 use Rattle.cell_words.specs.declared.found.At.{At}
 use Rattle.cell_words.specs.declared.found.At.TheVariants as at
 use Rattle.cell_words.specs.declared.found.Waiter.{Waiter}
-use Rattle.cell_words.specs.declared.cell_word.CellState.{CellState}
-use Rattle.cell_words.specs.declared.cell_word.CellState.TheVariants as state
-use Rattle.cell_words.specs.declared.cell_word.CellWord.{CellWord}
-use Rattle.cell_words.specs.declared.wait_word.WaitWord.{WaitWord}
+use Rattle.word_rules.specs.declared.cell_word.CellState.{CellState}
+use Rattle.word_rules.specs.declared.cell_word.CellState.TheVariants as state
+use Rattle.word_rules.specs.declared.cell_word.CellWord.{CellWord}
+use Rattle.word_rules.specs.declared.wait_word.WaitWord.{WaitWord}
 use Rattle.co_base.specs.declared.names.WaitId.{WaitId}
-use Rattle.cell_words.specs.Cells.{Cell, buffered, cell_of, standing, is_used}
-use Rattle.cell_words.specs.Codes.{packed_wait}
-use Rattle.cell_words.specs.Words.{parts_word, word_of_wait, wait_code}
+use Rattle.word_rules.specs.Cells.{Cell, buffered, cell_of, standing, is_used}
+use Rattle.word_rules.specs.Codes.{packed_wait}
+use Rattle.word_rules.specs.Words.{parts_word, word_of_wait, wait_code}
 use Rattle.cell_words.specs.Seen.{Seen, at_channel, Sees}
 use Rattle.cell_words.specs.Looks.{is_nobody, found_by_sender, found_by_receiver}
 use Rattle.cell_words.specs.Answers.{Receives, Offers, stands, OfferAt, ReceiveAt}

@@ -4,9 +4,8 @@ use Rattle.worded.specs.Histories.{HasOneHistory}
 use Rattle.worded.specs.declared.view.View.{View}
 use Rattle.channel_model.specs.declared.acts.Entry.{Entry}
 use Rattle.channel_model.specs.Histories.{Legal, acts_of}
-use Rattle.cell_words.specs.declared.layout.Layout.{Layout}
-use Rattle.cell_words.specs.Words.{Fits, word_count}
-use Rattle.cell_words.specs.Seen.{maker}
+use Rattle.word_rules.specs.declared.layout.Layout.{Layout}
+use Rattle.word_rules.specs.Words.{Fits, word_count, maker}
 use Rattle.cell_words.specs.Tables.{HoldsChannels}
 use Rattle.worded.proofs.TagsHeld.{are_seats}
 use Rattle.cell_words.proofs.ActsOfTags.{same_acts, no_acts}

@@ -15,7 +15,7 @@ use Rattle.channel_model.specs.Needs.{Needs, HasPlace, MayName, JoinsWait}
 use Rattle.channel_model.specs.Histories.{replay, Legal}
 use Rattle.channel_model.proofs.Waits.{same_wait-eq}
 use Rattle.channel_model.proofs.Placed.{Placed}
-use Rattle.cell_words.specs.Cells.{Cell, free, receiver, offer, buffered, emptied, closed_by, voided_by, Cells, spot, set_cell, standing, offer_of, offer_by, offer_after, emptied_if, emptied_unless, Board, step_board, blank, board_from, cell_of}
+use Rattle.word_rules.specs.Cells.{Cell, free, receiver, offer, buffered, emptied, closed_by, voided_by, Cells, spot, set_cell, standing, offer_of, offer_by, offer_after, emptied_if, emptied_unless, Board, step_board, blank, board_from, cell_of}
 use Rattle.cell_words.proofs.ListsOfCells.{by_spot, cell_here}
 use Rattle.channel_model.proofs.Sound.{Sound}
 use Rattle.cell_words.proofs.CellsGiveLists.{BoardLasts, board_lasts, board_state}

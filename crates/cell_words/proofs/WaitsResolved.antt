@@ -5,18 +5,18 @@ use Rattle.channel_model.specs.declared.acts.Entry.{Entry}
 use Rattle.channel_model.specs.Channels.{Shape}
 use Rattle.channel_model.specs.Histories.{replay, Legal}
 use Rattle.channel_model.specs.Answers.{IsOwnWait, IsResolvedWait}
-use Rattle.cell_words.specs.declared.cell_word.CellWord.{CellWord}
+use Rattle.word_rules.specs.declared.cell_word.CellWord.{CellWord}
 use Rattle.cell_words.specs.declared.found.Removal.{Removal}
 use Rattle.cell_words.specs.declared.hub.Hub.{Hub}
 use Rattle.cell_words.specs.declared.pass.Pass.{Pass}
-use Rattle.cell_words.specs.Hubs.{shape_of, IsOf}
-use Rattle.cell_words.specs.Words.{number}
+use Rattle.cell_words.specs.Hubs.{shape_of, IsOf, seen_by}
+use Rattle.word_rules.specs.Words.{number}
 use Rattle.cell_words.specs.declared.found.Waiter.{Waiter}
-use Rattle.cell_words.specs.declared.wait_word.WaitWord.{WaitWord}
-use Rattle.cell_words.specs.Cells.{receiver, offer, cell_of}
-use Rattle.cell_words.specs.Codes.{packed_wait, resolver_code}
-use Rattle.cell_words.specs.declared.wait_word.ResolvedBy.{ResolvedBy}
-use Rattle.cell_words.specs.declared.wait_word.ResolvedBy.TheVariants as by
+use Rattle.word_rules.specs.declared.wait_word.WaitWord.{WaitWord}
+use Rattle.word_rules.specs.Cells.{receiver, offer, cell_of}
+use Rattle.word_rules.specs.Codes.{packed_wait, resolver_code}
+use Rattle.word_rules.specs.declared.wait_word.ResolvedBy.{ResolvedBy}
+use Rattle.word_rules.specs.declared.wait_word.ResolvedBy.TheVariants as by
 use Rattle.channel_model.specs.Laws.{NoneBelow}
 use Rattle.cell_words.specs.Seen.{Seen, Sees, at_channel}
 use Rattle.cell_words.specs.Looks.{is_nobody, owner_told, holder_of, lets_stand, tried_by, tried_found}
@@ -45,20 +45,20 @@ receiver_seen shape c p who k w u v s l e = subst (λ (es : List Entry). cell_of
 -- of one whose wait was resolved, nobody stands up to its place; before the exchange, and where the exchange found it resolved
 module _ (hub : Hub) (pass : Pass) (of : IsOf hub pass) (c p : ℕ) (x : Waiter) (v : Seen) (low : NoneBelow p 0 (at_channel v.seen c))
     (first : Receives (shape_of hub) c p x v.seen) where
-  pub receiver_resolved : Sees v pass.seat.me.0 → IsResolvedWait ((replay pass.seat.me.0.seen).waits first.held.wait)
-      → Sees v pass.seat.me.0 × NoneBelow (p + 1) 0 (at_channel pass.seat.me.0.seen c)
+  pub receiver_resolved : Sees v (seen_by pass) → IsResolvedWait ((replay (seen_by pass).seen).waits first.held.wait)
+      → Sees v (seen_by pass) × NoneBelow (p + 1) 0 (at_channel (seen_by pass).seen c)
   receiver_resolved s resolved = (
     s,
-    receiver_lost (shape_of hub) v pass.seat.me.0 (hub_legal hub pass of) s c p first.held.who x.clause
+    receiver_lost (shape_of hub) v (seen_by pass) (hub_legal hub pass of) s c p first.held.who x.clause
         first.held.wait low first.cell resolved,
   )
 
   pub receiver_missed : (u : Seen) → Sees v u → (n old : ℕ) → old ≡ 0
       → number (shape_of hub) first.held.wait.channel first.held.wait.place ≡ n → (found : WaitWord)
-      → Sees u pass.seat.me.0 × IsNumberedWait (shape_of hub) n pass.seat.me.0.seen found × (packed_wait found ≢ old)
-      → Sees v pass.seat.me.0 × NoneBelow (p + 1) 0 (at_channel pass.seat.me.0.seen c)
-  receiver_missed u s n old zero is found told = receiver_resolved (sees_then v u pass.seat.me.0 s told.0)
-      (resolved_found found ((replay pass.seat.me.0.seen).waits first.held.wait)
+      → Sees u (seen_by pass) × IsNumberedWait (shape_of hub) n (seen_by pass).seen found × (packed_wait found ≢ old)
+      → Sees v (seen_by pass) × NoneBelow (p + 1) 0 (at_channel (seen_by pass).seen c)
+  receiver_missed u s n old zero is found told = receiver_resolved (sees_then v u (seen_by pass) s told.0)
+      (resolved_found found ((replay (seen_by pass).seen).waits first.held.wait)
       (told.1 first.held.wait (first.held.fits.channel, first.held.fits.place) is).0 (λ z. told.2 (z ∙ sym zero)))
 
 -- an offer does, or its wait was resolved

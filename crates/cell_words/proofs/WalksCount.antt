@@ -14,14 +14,14 @@ use Rattle.channel_model.specs.Channels.{Shape, Channel, kind_at, is_full, suspe
 use Rattle.channel_model.specs.Histories.{replay, Legal}
 use Rattle.channel_model.specs.Laws.{NoneBelow}
 use Rattle.channel_model.proofs.Elements.{all_first, all_rest, all_more}
-use Rattle.cell_words.specs.declared.cell_word.CellState.{CellState}
-use Rattle.cell_words.specs.declared.cell_word.CellState.TheVariants as state
-use Rattle.cell_words.specs.declared.cell_word.CellWord.{CellWord}
-use Rattle.cell_words.specs.declared.wait_word.WaitWord.{WaitWord}
+use Rattle.word_rules.specs.declared.cell_word.CellState.{CellState}
+use Rattle.word_rules.specs.declared.cell_word.CellState.TheVariants as state
+use Rattle.word_rules.specs.declared.cell_word.CellWord.{CellWord}
+use Rattle.word_rules.specs.declared.wait_word.WaitWord.{WaitWord}
 use Rattle.cell_words.specs.declared.found.At.{At}
 use Rattle.cell_words.specs.declared.found.At.TheVariants as at
-use Rattle.cell_words.specs.Cells.{Cell, free, receiver, offer, buffered, emptied, closed_by, voided_by, cell_of, gather, standing}
-use Rattle.cell_words.specs.Words.{PartyFits, word_of_cell, CellFits}
+use Rattle.word_rules.specs.Cells.{Cell, free, receiver, offer, buffered, emptied, closed_by, voided_by, cell_of, gather, standing}
+use Rattle.word_rules.specs.Words.{PartyFits, word_of_cell, CellFits}
 use Rattle.cell_words.specs.Seen.{Seen, at_channel, Sees}
 use Rattle.cell_words.specs.Looks.{holder_of, found_by_sender, found_by_receiver, lets_stand}
 use Rattle.cell_words.specs.Answers.{IsCellWord, IsWaitWord, IsHolder, stands, OfferAt, OfferHere, ReceiveAt, TriedReceiveAt}

@@ -28,8 +28,8 @@ use Rattle.channel_model.proofs.Sound.{Sound, sound}
 use Rattle.cell_words.specs.declared.found.Search.{Search}
 use Rattle.cell_words.specs.declared.found.Search.TheVariants as search
 use Rattle.cell_words.specs.declared.found.Waiter.{Waiter}
-use Rattle.cell_words.specs.Cells.{Cell, free, receiver, offer, buffered, emptied, closed_by, voided_by, set_cell, standing, offer_of, offer_by, emptied_if, mark, Board, step_board, board_from, board_of, blank, cell_of, gather, add_some, is_used}
-use Rattle.cell_words.specs.Words.{WasKept, WereKept}
+use Rattle.word_rules.specs.Cells.{Cell, free, receiver, offer, buffered, emptied, closed_by, voided_by, set_cell, standing, offer_of, offer_by, emptied_if, mark, Board, step_board, board_from, board_of, blank, cell_of, gather, add_some, is_used}
+use Rattle.word_rules.specs.Words.{WasKept, WereKept}
 use Rattle.cell_words.specs.Seen.{Seen, Sees, at_channel}
 use Rattle.cell_words.specs.Answers.{stands, Offers, IsAdmitted, Admits, NothingToAdmit, SearchAnswer, waits_with, KeptHere}
 use Rattle.cell_words.proofs.GatheredLists.{gather_none}

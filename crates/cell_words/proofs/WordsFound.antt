@@ -9,12 +9,12 @@ use Rattle.channel_model.specs.declared.standing.Resolution.{Resolution}
 use Rattle.channel_model.specs.declared.standing.Resolution.TheVariants as resolved
 use Rattle.channel_model.specs.Channels.{Shape, Wait, same_wait}
 use Rattle.channel_model.specs.Histories.{replay}
-use Rattle.cell_words.specs.declared.cell_word.CellState.{CellState}
-use Rattle.cell_words.specs.declared.cell_word.CellWord.{CellWord}
-use Rattle.cell_words.specs.declared.wait_word.WaitWord.{WaitWord}
-use Rattle.cell_words.specs.Cells.{Cell, free, receiver, offer, buffered, spot, cell_of}
-use Rattle.cell_words.specs.Codes.{packed_cell, IsNarrowCell, packed_wait, IsNarrowWait}
-use Rattle.cell_words.specs.Words.{number, IsCell, PartyFits, party_word, word_of_cell, CellFits, how_word, parts_word, word_of_wait, HowFits, PartsFit, WaitFits, Fits}
+use Rattle.word_rules.specs.declared.cell_word.CellState.{CellState}
+use Rattle.word_rules.specs.declared.cell_word.CellWord.{CellWord}
+use Rattle.word_rules.specs.declared.wait_word.WaitWord.{WaitWord}
+use Rattle.word_rules.specs.Cells.{Cell, free, receiver, offer, buffered, spot, cell_of}
+use Rattle.word_rules.specs.Codes.{packed_cell, IsNarrowCell, packed_wait, IsNarrowWait}
+use Rattle.word_rules.specs.Words.{number, IsCell, PartyFits, party_word, word_of_cell, CellFits, how_word, parts_word, word_of_wait, HowFits, PartsFit, WaitFits, Fits}
 use Rattle.cell_words.specs.Answers.{IsNumber, IsCellWord, IsWaitWord, IsNumberedCell, IsNumberedWait}
 use Rattle.cell_words.proofs.OneCodeOneWord.{cell_code_is, wait_code_is}
 

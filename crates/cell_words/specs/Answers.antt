@@ -12,9 +12,9 @@ use Rattle.channel_model.specs.Histories.{replay, Legal}
 use Rattle.channel_model.specs.Laws.{NoneBelow, IsResolvedAs}
 use Rattle.channel_model.specs.Answers.{first_receiver, first_holder, owner_of_holder, IsOwnWait, IsResolvedWait, IsSpentForOffers, IsSpentForReceives, IsFullToTry, IsEmptyToTry, IsAdmittedBelow}
 use Rattle.worded.specs.Exchanges.{MayEnter}
-use Rattle.cell_words.specs.declared.cell_word.CellState.TheVariants as cell
-use Rattle.cell_words.specs.declared.cell_word.CellWord.{CellWord}
-use Rattle.cell_words.specs.declared.wait_word.WaitWord.{WaitWord}
+use Rattle.word_rules.specs.declared.cell_word.CellState.TheVariants as cell
+use Rattle.word_rules.specs.declared.cell_word.CellWord.{CellWord}
+use Rattle.word_rules.specs.declared.wait_word.WaitWord.{WaitWord}
 use Rattle.cell_words.specs.declared.found.Admission.{Admission}
 use Rattle.cell_words.specs.declared.found.Admission.TheVariants as admission
 use Rattle.cell_words.specs.declared.found.At.{At}
@@ -32,11 +32,11 @@ use Rattle.cell_words.specs.declared.found.Removal.TheVariants as removal
 use Rattle.cell_words.specs.declared.found.Search.{Search}
 use Rattle.cell_words.specs.declared.found.Search.TheVariants as search
 use Rattle.cell_words.specs.declared.found.Waiter.{Waiter}
-use Rattle.cell_words.specs.Cells.{receiver, offer, buffered, emptied, spot, cell_of, standing}
-use Rattle.cell_words.specs.Codes.{packed_cell, packed_wait}
+use Rattle.word_rules.specs.Cells.{receiver, offer, buffered, emptied, spot, cell_of, standing}
+use Rattle.word_rules.specs.Codes.{packed_cell, packed_wait}
 use Rattle.cell_words.specs.Removals.{removal_act}
-use Rattle.cell_words.specs.Words.{number, IsCell, PartyFits, plain_word, party_word, word_of_cell, CellFits, word_of_wait, WaitFits, WereKept, Fits}
-use Rattle.cell_words.specs.Seen.{Seen, maker, at_channel, Sees, Makes, Turns}
+use Rattle.word_rules.specs.Words.{number, IsCell, PartyFits, plain_word, party_word, word_of_cell, CellFits, word_of_wait, WaitFits, WereKept, Fits, maker}
+use Rattle.cell_words.specs.Seen.{Seen, at_channel, Sees, Makes, Turns}
 
 -- ---- words
 

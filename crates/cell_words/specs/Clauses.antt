@@ -8,12 +8,12 @@ use Rattle.channel_model.specs.Histories.{replay}
 use Rattle.channel_model.specs.Laws.{NoneBelow}
 use Rattle.channel_model.specs.Needs.{JoinsWait}
 use Rattle.channel_model.specs.Registers.{main_at, StandsReceiver, StandsOffer}
-use Rattle.cell_words.specs.declared.cell_word.CellState.{CellState}
-use Rattle.cell_words.specs.declared.cell_word.CellWord.{CellWord}
+use Rattle.word_rules.specs.declared.cell_word.CellState.{CellState}
+use Rattle.word_rules.specs.declared.cell_word.CellWord.{CellWord}
 use Rattle.cell_words.specs.declared.found.At.{At}
 use Rattle.cell_words.specs.declared.found.At.TheVariants as at
-use Rattle.cell_words.specs.Cells.{spot}
-use Rattle.cell_words.specs.Words.{number, IsCell}
+use Rattle.word_rules.specs.Cells.{spot}
+use Rattle.word_rules.specs.Words.{number, IsCell}
 use Rattle.cell_words.specs.Seen.{Seen, at_channel, Sees, Makes}
 use Rattle.cell_words.specs.Answers.{OfferAt, ReceiveAt}
 

@@ -1,7 +1,5 @@
 pub mod Answers
-pub mod Cells
 pub mod Clauses
-pub mod Codes
 pub mod Hubs
 pub mod Looks
 pub mod Meetings
@@ -10,4 +8,3 @@ pub mod Removals
 pub mod Seen
 pub mod Sizes
 pub mod Tables
-pub mod Words

@@ -1,7 +1,7 @@
 -- What a cell's word tells of an element that was put there.
 use Rattle.std.specs.Prelude.{Bool, true, false}
-use Rattle.cell_words.specs.declared.cell_word.CellState.{CellState}
-use Rattle.cell_words.specs.declared.cell_word.CellState.TheVariants as cell
+use Rattle.word_rules.specs.declared.cell_word.CellState.{CellState}
+use Rattle.word_rules.specs.declared.cell_word.CellState.TheVariants as cell
 
 -- an element was put here, and may have been removed since
 abbrev pub was_put : CellState → Bool

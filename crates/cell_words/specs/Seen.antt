@@ -7,15 +7,25 @@ use Rattle.worded.specs.Views.{EachUngiven}
 use Rattle.worded.specs.Views as views
 use Rattle.worded.specs.Steps as steps
 use Rattle.worded.specs.declared.view.View.{View}
-use Rattle.cell_words.specs.declared.layout.Layout.{Layout}
-use Rattle.cell_words.specs.Words.{Fits}
+use Rattle.either.specs.declared.Either.{Either}
+use Rattle.joined_words.specs.Parts.{view_in}
+use Rattle.joined_words.specs.Joints.{first_part}
+use Rattle.word_rules.specs.declared.deed.Deed.{Deed}
+use Rattle.word_rules.specs.declared.layout.Layout.{Layout}
+use Rattle.word_rules.specs.declared.size.ForestSize.{ForestSize}
+use Rattle.word_rules.specs.Words.{Fits, maker}
 
 -- what a pass knows of its hub
 abbrev pub Seen : Type 0
 Seen = View Entry Layout
 
-abbrev pub maker : Entry → ℕ
-maker e = e.who
+-- what a seat knows of the whole table, on which a forest may stand too
+abbrev pub Known : Type 0
+Known = View (Either Entry Deed) (Layout × ForestSize)
+
+-- and of that, what is of the channels: the table's first part
+unfoldable pub on_channels : Known → Seen
+on_channels v = view_in first_part v
 
 -- a channel after what was seen
 abbrev pub at_channel : List Entry → ℕ → Channel

@@ -1,4 +1,4 @@
--- What holds of a hub's table between any two steps.
+-- What holds of a hub's part of the table between any two steps.
 use Rattle.std.specs.Prelude.{ℕ, ◌<◌, List, slice_index}
 use Rattle.atomic_table.specs.Table.{State}
 use Rattle.worded.specs.Histories.{AreSeatsOf}
@@ -6,8 +6,8 @@ use Rattle.worded.specs.declared.view.View.{View}
 use Rattle.channel_model.specs.declared.acts.Entry.{Entry}
 use Rattle.channel_model.specs.Channels.{Shape}
 use Rattle.channel_model.specs.Histories.{Legal, acts_of}
-use Rattle.cell_words.specs.declared.layout.Layout.{Layout}
-use Rattle.cell_words.specs.Words.{Fits, word_count}
+use Rattle.word_rules.specs.declared.layout.Layout.{Layout}
+use Rattle.word_rules.specs.Words.{Fits, word_count}
 
 -- The words are those of one legal history; each pass has seen a beginning of it, and all entries of its own tags; no two passes have
 -- one tag, and a tag that no pass has made no entry

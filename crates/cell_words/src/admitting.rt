@@ -3,8 +3,8 @@ ghost use Rattle.std.specs.Prelude.{◌≡◌, ◌<◌, ◌≤◌, true, false, 
 ghost use Rattle.channel_model.specs.declared.acts.Kind.TheVariants as kinds;
 ghost use Rattle.channel_model.specs.Channels.{kind_at, suspends, is_full};
 ghost use Rattle.channel_model.specs.Laws.{NoneBelow};
-ghost use Rattle.cell_words.specs.Cells.{gather};
-ghost use Rattle.cell_words.specs.Words.{IsCell};
+ghost use Rattle.word_rules.specs.Cells.{gather};
+ghost use Rattle.word_rules.specs.Words.{IsCell};
 ghost use Rattle.cell_words.specs.Hubs.{shape_of, seen_by, IsOwn};
 ghost use Rattle.cell_words.specs.Seen.{at_channel};
 ghost use Rattle.cell_words.specs.Answers.{stands, Offers, SenderAt, AdmitAt, HereAnswer, SearchAnswer, AdmitBelowAnswer};
@@ -18,9 +18,9 @@ use crate::hub::Hub;
 use crate::looks::{admission_found, found_by_receiver, is_used, standing_wait};
 use crate::pass::Pass;
 use crate::resolving::{owner_of, wait_cell};
-use crate::wait_word::{ResolvedBy, WaitWord};
 use channel_model::{Act, Entry, Kind};
 use co_base::{ChannelId, Place, Tag};
+use word_rules::{ResolvedBy, WaitWord};
 
 /// What is at a place, for one who looks for offers, also behind others, and receives nothing.
 pub fn sender_at(hub: &Hub, pass: &mut Pass, who: Tag, c: ChannelId, place: Place) -> At

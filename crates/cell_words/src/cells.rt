@@ -1,19 +1,18 @@
 //! The words of cells and of waits, as steps on them.
 ghost use Rattle.std.specs.Prelude.{◌≡◌, ◌<◌, ◌+◌, ◌*◌, length};
 ghost use Rattle.channel_model.specs.Channels.{kind_at, places_at};
-ghost use Rattle.cell_words.specs.Codes.{packed_cell, packed_wait, IsNarrowCell, IsNarrowWait};
-ghost use Rattle.cell_words.specs.Words.{number, IsCell};
+ghost use Rattle.word_rules.specs.Codes.{packed_cell, packed_wait, IsNarrowCell, IsNarrowWait};
+ghost use Rattle.word_rules.specs.Words.{number, IsCell};
 ghost use Rattle.cell_words.specs.Hubs.{shape_of, seen_by, IsOwn};
 ghost use Rattle.cell_words.specs.Seen.{Sees};
 ghost use Rattle.cell_words.specs.Answers.{IsNumber, IsCellWord, IsNumberedCell, IsNumberedWait, MayTurn, CellAnswer, WaitAnswer};
 
-use crate::cell_word::CellWord;
 use crate::hub::Hub;
 use crate::pass::Pass;
 use crate::steps::{exchange_word, load_word};
-use crate::wait_word::WaitWord;
 use channel_model::{Entry, Kind};
 use co_base::{ChannelId, Place, Tag};
+use word_rules::{CellWord, WaitWord};
 
 /// The number of a cell.
 pub(crate) fn number_of(hub: &Hub, c: ChannelId, place: Place) -> usize

@@ -4,18 +4,14 @@ ghost use Rattle.channel_model.specs.Channels.{kind_at, places_at, is_full, susp
 ghost use Rattle.channel_model.specs.Histories.{replay};
 ghost use Rattle.channel_model.specs.Laws.{NoneBelow};
 ghost use Rattle.channel_model.specs.Answers.{IsTrimmed, StandsWithRoom};
-ghost use Rattle.cell_words.specs.Cells.{gather};
-ghost use Rattle.cell_words.specs.Words.{IsCell, WerePut};
+ghost use Rattle.word_rules.specs.Cells.{gather};
+ghost use Rattle.word_rules.specs.Words.{IsCell};
 ghost use Rattle.cell_words.specs.Hubs.{shape_of, seen_by, IsOwn};
 ghost use Rattle.cell_words.specs.Seen.{Sees, at_channel};
 ghost use Rattle.cell_words.specs.Answers.{stands, IsOver, WasTooMany};
 
-use crate::cell_word::CellState;
 use crate::cells::{kind_of, load_cell, load_wait};
-use crate::counters::{
-    RoomCount, counts_behind, counts_from, has_from, kept_run, raise_receives, receives_from,
-    room_count,
-};
+use crate::counters::{has_from, kept_run, raise_receives, receives_from};
 use crate::decided::{decided_up_to, tells_enough, tells_fewer};
 use crate::hub::Hub;
 use crate::looks::{holder_of, lets_stand};
@@ -23,6 +19,11 @@ use crate::pass::Pass;
 use crate::resolving::wait_cell;
 use channel_model::Kind;
 use co_base::{ChannelId, Place, Tag};
+use word_rules::CellState;
+
+// How often who counts looks again for a place of which is not decided yet, before it counts what stands: whoever put an element there
+// is about to say so.
+const LOOKS: u32 = 32;
 
 /// Whether an offer stands at a place: true if it stood at the beginning, false if none stands any more.
 pub(crate) fn stands_at(hub: &Hub, pass: &mut Pass, who: Tag, c: ChannelId, place: Place) -> bool
@@ -102,8 +103,8 @@ fn count_from(
     count >= most
 }
 
-/// The same in a channel on which a send may wait, by the places of which is decided whether their element was kept: so a gap that an offer
-/// left ends no count.
+/// The same by the places of which is decided whether their element was kept: so neither a gap that an offer left nor an element that was
+/// one too many ends a count.
 fn count_decided(
     hub: &Hub,
     pass: &mut Pass,
@@ -115,7 +116,6 @@ fn count_decided(
 ) -> bool
     requires own { IsOwn hub.now pass.old who }
     requires at { IsCell (shape_of hub.now) c end }
-    requires kind { suspends (kind_at (shape_of hub.now) c) ≡ true }
     requires given { end ≤ (at_channel (seen_by pass.old).seen c).next }
     requires from { low < end }
     requires low { NoneBelow 0 low (at_channel (seen_by pass.old).seen c) }
@@ -125,14 +125,16 @@ fn count_decided(
         (most ≤ length (gather (stands (seen_by pass.old).seen c) end))
         (length (gather (stands (seen_by pass.new).seen c) end) < most) }
 {
-    let known = decided_up_to(hub, pass, who, c, low, end);
-    if tells_fewer(known, low, end, most) {
-        return false;
-    }
-    let stood = stands_at(hub, pass, who, c, low);
-    // Kept elements leave from the front alone: while the first stands, so do all that were kept behind it.
-    if tells_enough(known, low, end, most, stood) {
-        return true;
+    for look in 0..LOOKS {
+        let known = decided_up_to(hub, pass, who, c, low, end);
+        if tells_fewer(known, low, end, most) {
+            return false;
+        }
+        let stood = stands_at(hub, pass, who, c, low);
+        // Kept elements leave from the front alone: while the first stands, so do all that were kept behind it.
+        if tells_enough(known, low, end, most, stood) {
+            return true;
+        }
     }
     count_from(hub, pass, who, c, low, end, most)
 }
@@ -179,14 +181,12 @@ pub(crate) fn count_latest(
     pass: &mut Pass,
     who: Tag,
     c: ChannelId,
-    room: RoomCount,
     end: Place,
     most: u32,
 ) -> bool
     requires own { IsOwn hub.now pass.old who }
     requires at { IsCell (shape_of hub.now) c end }
     requires given { end ≤ (at_channel (seen_by pass.old).seen c).next }
-    requires put { WerePut (shape_of hub.now) (seen_by pass.old).seen c room.from room.to room.count }
     ensures own { IsOwn hub.now pass.new who }
     ensures sees { Sees (seen_by pass.old) (seen_by pass.new) }
     ensures count { MatchBool result
@@ -204,14 +204,7 @@ pub(crate) fn count_latest(
         }
         if stands_at(hub, pass, who, c, low) {
             raise_receives(hub, pass, who, c, from, low);
-            // Nobody spurns what was put with room: while the first stands, so do those of the count behind it.
-            if counts_from(room, low, end, most) {
-                return true;
-            }
-            if counts_behind(room, low, end, most) {
-                return true;
-            }
-            return count_from(hub, pass, who, c, low, end, most);
+            return count_decided(hub, pass, who, c, low, end, most);
         }
     }
     most == 0
@@ -287,6 +280,5 @@ pub fn was_too_many(hub: &Hub, pass: &mut Pass, who: Tag, c: ChannelId, mine: Pl
         Some(most) => most,
         None => return false,
     };
-    let room = room_count(hub, pass, who, c);
-    count_latest(hub, pass, who, c, room, mine, most)
+    count_latest(hub, pass, who, c, mine, most)
 }

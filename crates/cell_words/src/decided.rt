@@ -1,22 +1,23 @@
 //! Places of which is decided whether their element was kept, with the number of those where it was: so an offer that was withdrawn ends
 //! no count. A word of the channel has such places, and each who counts moves it on.
-ghost use Rattle.std.specs.Prelude.{◌≡◌, ◌⊎◌, ◌+◌, ◌-◌, ◌<◌, ◌≤◌, ℕ, Bool, List, MatchBool, ⊤, true, length, Some};
+ghost use Rattle.std.specs.Prelude.{◌≡◌, ◌⊎◌, ◌+◌, ◌-◌, ◌<◌, ◌≤◌, ℕ, Bool, List, MatchBool, ⊤, true, false, length, Some};
 ghost use Rattle.channel_model.specs.declared.acts.Entry.{Entry as AnEntry};
-ghost use Rattle.cell_words.specs.Words.{decided_number, one_if, fate, IsCell, WereDecided};
+ghost use Rattle.channel_model.specs.Channels.{Shape, kind_at, spurns};
+ghost use Rattle.word_rules.specs.Words.{decided_number, one_if, fate, IsCell, WereDecided};
 ghost use Rattle.cell_words.specs.Hubs.{shape_of, seen_by, IsOwn};
 ghost use Rattle.cell_words.specs.Looks.{kept_told};
 ghost use Rattle.cell_words.specs.Seen.{Sees};
 
-use crate::cell_word::CellState;
-use crate::cells::{load_cell, load_wait};
+use crate::cells::{kind_of, load_cell, load_wait};
 use crate::counters::send_word;
 use crate::hub::Hub;
 use crate::looks::holder_of;
+use crate::marks::mark_at;
 use crate::pass::Pass;
 use crate::resolving::wait_cell;
 use crate::steps::{lift_word, load_word};
-use crate::wait_word::{ResolvedBy, WaitWord};
 use co_base::{ChannelId, Place, Tag};
+use word_rules::{CellState, ResolvedBy, WaitWord};
 
 /// Places from the first on, and before the last, at so many of which an element was kept. At the others an offer was, and is gone.
 #[derive(Clone, Copy, Debug, PartialEq, Eq)]
@@ -30,7 +31,7 @@ fn decided_word(hub: &Hub, c: ChannelId) -> usize
     requires { c < length (shape_of hub.now) }
     ensures { result ≡ decided_number (shape_of hub.now) c }
 {
-    send_word(hub, c) + 3
+    send_word(hub, c) + 2
 }
 
 // These places as their word has them: `to * 2^42 + from * 2^21 + count`.
@@ -39,7 +40,7 @@ fn decided_places(hub: &Hub, pass: &mut Pass, who: Tag, c: ChannelId) -> Decided
     requires channel { c < length (shape_of hub.now) }
     ensures own { IsOwn hub.now pass.new who }
     ensures sees { Sees (seen_by pass.old) (seen_by pass.new) }
-    ensures decided { WereDecided (seen_by pass.new).seen c result.from result.to result.count }
+    ensures decided { WereDecided (shape_of hub.now) (seen_by pass.new).seen c result.from result.to result.count }
 {
     let word = load_word(hub, pass, who, decided_word(hub, c));
     Decided {
@@ -53,7 +54,7 @@ fn decided_places(hub: &Hub, pass: &mut Pass, who: Tag, c: ChannelId) -> Decided
 fn say_decided(hub: &Hub, pass: &mut Pass, who: Tag, c: ChannelId, word: Decided, known: Decided)
     requires own { IsOwn hub.now pass.old who }
     requires channel { c < length (shape_of hub.now) }
-    requires decided { WereDecided (seen_by pass.old).seen c known.from known.to known.count }
+    requires decided { WereDecided (shape_of hub.now) (seen_by pass.old).seen c known.from known.to known.count }
     ensures own { IsOwn hub.now pass.new who }
     ensures same { seen_by pass.new ≡ seen_by pass.old }
 {
@@ -90,13 +91,14 @@ fn kept_told(wait: WaitWord, clause: u8) -> Option<bool>
     }
 }
 
-// Whether the element at a place was kept, if that is decided.
-fn fate_at(hub: &Hub, pass: &mut Pass, who: Tag, c: ChannelId, place: Place) -> Option<bool>
+// Whether the element at a place was kept, if that is decided, in a channel that keeps each element that was put.
+fn fate_by_cell(hub: &Hub, pass: &mut Pass, who: Tag, c: ChannelId, place: Place) -> Option<bool>
     requires own { IsOwn hub.now pass.old who }
     requires at { IsCell (shape_of hub.now) c place }
+    requires never { (n : ℕ) → spurns (kind_at (shape_of hub.now) c) n ≡ false }
     ensures own { IsOwn hub.now pass.new who }
     ensures sees { Sees (seen_by pass.old) (seen_by pass.new) }
-    ensures fate { (b : Bool) → result ≡ Some b → fate (seen_by pass.new).seen c place ≡ Some b }
+    ensures fate { (b : Bool) → result ≡ Some b → fate (shape_of hub.now) (seen_by pass.new).seen c place ≡ Some b }
 {
     let word = load_cell(hub, pass, who, c, place);
     match word.state {
@@ -108,6 +110,20 @@ fn fate_at(hub: &Hub, pass: &mut Pass, who: Tag, c: ChannelId, place: Place) -> 
             kept_told(wait, word.clause)
         }
         CellState::Free | CellState::Receiver | CellState::Closed | CellState::Voided => None,
+    }
+}
+
+// Whether the element at a place was kept, if that is decided: where an element may be one too many, its mark tells.
+fn fate_at(hub: &Hub, pass: &mut Pass, who: Tag, c: ChannelId, place: Place) -> Option<bool>
+    requires own { IsOwn hub.now pass.old who }
+    requires at { IsCell (shape_of hub.now) c place }
+    ensures own { IsOwn hub.now pass.new who }
+    ensures sees { Sees (seen_by pass.old) (seen_by pass.new) }
+    ensures fate { (b : Bool) → result ≡ Some b → fate (shape_of hub.now) (seen_by pass.new).seen c place ≡ Some b }
+{
+    match kind_of(hub, c).spurns_beyond() {
+        Some(_) => mark_at(hub, pass, who, c, place),
+        None => fate_by_cell(hub, pass, who, c, place),
     }
 }
 
@@ -147,10 +163,10 @@ fn drop_front(
     requires own { IsOwn hub.now pass.old who }
     requires at { IsCell (shape_of hub.now) c low }
     requires within { (known.from ≤ low) × (low ≤ known.to) }
-    requires decided { WereDecided (seen_by pass.old).seen c known.from known.to known.count }
+    requires decided { WereDecided (shape_of hub.now) (seen_by pass.old).seen c known.from known.to known.count }
     ensures own { IsOwn hub.now pass.new who }
     ensures sees { Sees (seen_by pass.old) (seen_by pass.new) }
-    ensures decided { WereDecided (seen_by pass.new).seen c result.from result.to result.count }
+    ensures decided { WereDecided (shape_of hub.now) (seen_by pass.new).seen c result.from result.to result.count }
 {
     let mut count = known.count;
     for place in known.from..low {
@@ -184,10 +200,10 @@ fn rest_from(
 ) -> Decided
     requires own { IsOwn hub.now pass.old who }
     requires at { IsCell (shape_of hub.now) c low }
-    requires decided { WereDecided (seen_by pass.old).seen c word.from word.to word.count }
+    requires decided { WereDecided (shape_of hub.now) (seen_by pass.old).seen c word.from word.to word.count }
     ensures own { IsOwn hub.now pass.new who }
     ensures sees { Sees (seen_by pass.old) (seen_by pass.new) }
-    ensures decided { WereDecided (seen_by pass.new).seen c result.from result.to result.count }
+    ensures decided { WereDecided (shape_of hub.now) (seen_by pass.new).seen c result.from result.to result.count }
 {
     if low < word.from || word.to <= low {
         return Decided {
@@ -203,10 +219,10 @@ fn rest_from(
 fn go_on(hub: &Hub, pass: &mut Pass, who: Tag, c: ChannelId, known: Decided, end: Place) -> Decided
     requires own { IsOwn hub.now pass.old who }
     requires at { IsCell (shape_of hub.now) c end }
-    requires decided { WereDecided (seen_by pass.old).seen c known.from known.to known.count }
+    requires decided { WereDecided (shape_of hub.now) (seen_by pass.old).seen c known.from known.to known.count }
     ensures own { IsOwn hub.now pass.new who }
     ensures sees { Sees (seen_by pass.old) (seen_by pass.new) }
-    ensures decided { WereDecided (seen_by pass.new).seen c result.from result.to result.count }
+    ensures decided { WereDecided (shape_of hub.now) (seen_by pass.new).seen c result.from result.to result.count }
 {
     if known.to < known.from || end <= known.to {
         return known;
@@ -253,7 +269,7 @@ pub(crate) fn decided_up_to(
     requires from { low ≤ end }
     ensures own { IsOwn hub.now pass.new who }
     ensures sees { Sees (seen_by pass.old) (seen_by pass.new) }
-    ensures decided { WereDecided (seen_by pass.new).seen c result.from result.to result.count }
+    ensures decided { WereDecided (shape_of hub.now) (seen_by pass.new).seen c result.from result.to result.count }
 {
     let word = decided_places(hub, pass, who, c);
     let rest = rest_from(hub, pass, who, c, word, low);
@@ -287,8 +303,8 @@ pub(crate) fn lower_of(place: Place, end: Place) -> Place
 /// These places, if they begin at `low`, and no more than so many elements were kept there; else none from there on.
 pub(crate) fn begun_at(known: Decided, low: Place, most: u32) -> Decided
     ensures low { (result.from ≡ low) × (low ≤ result.to) × (result.count ≤ most) }
-    ensures decided { (log : List AnEntry) (c : ℕ) → WereDecided log c known.from known.to known.count
-        → WereDecided log c result.from result.to result.count }
+    ensures decided { (shape : Shape) (log : List AnEntry) (c : ℕ)
+        → WereDecided shape log c known.from known.to known.count → WereDecided shape log c result.from result.to result.count }
 {
     if known.from == low && low <= known.to && known.count <= most {
         return known;

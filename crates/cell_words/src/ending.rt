@@ -1,22 +1,21 @@
 //! The end of a channel: where it is, that the channel is closed and cancelled there, and that who still waits to receive is told so.
 ghost use Rattle.std.specs.Prelude.{◌≡◌, ◌≤◌, Some};
 ghost use Rattle.channel_model.specs.Laws.{NoneBelow};
-ghost use Rattle.cell_words.specs.Words.{IsCell};
+ghost use Rattle.word_rules.specs.Words.{IsCell};
 ghost use Rattle.cell_words.specs.Hubs.{shape_of, seen_by, IsOwn};
 ghost use Rattle.cell_words.specs.Seen.{Sees, at_channel};
 ghost use Rattle.cell_words.specs.Answers.{Receives, EndAt, CloseAt, ReceiverAt, WakeAt, VoidAt};
 ghost use Rattle.cell_words.specs.declared.found.End.TheVariants as end;
 
-use crate::cell_word::CellState;
 use crate::cells::{exchange_cell, exchange_wait, load_cell};
 use crate::found::{At, End, Waiter};
 use crate::hub::Hub;
 use crate::looks::{end_found, found_by_sender, free_cell, is_used, plain_cell, standing_wait};
 use crate::pass::Pass;
 use crate::resolving::{owner_of, wait_cell};
-use crate::wait_word::{ResolvedBy, WaitWord};
 use channel_model::{Act, Entry};
 use co_base::{ChannelId, Place, Tag, Value};
+use word_rules::{CellState, ResolvedBy, WaitWord};
 
 /// Whether the channel ends here.
 pub fn end_at(hub: &Hub, pass: &mut Pass, who: Tag, c: ChannelId, place: Place) -> End

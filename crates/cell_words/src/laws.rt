@@ -6,13 +6,12 @@ ghost use Rattle.worded.specs.declared.view.View.{View};
 ghost use Rattle.channel_model.specs.declared.acts.Entry.{Entry as AnEntry};
 ghost use Rattle.channel_model.specs.Channels.{Shape};
 ghost use Rattle.channel_model.specs.Histories.{replay, Legal};
-ghost use Rattle.cell_words.specs.declared.layout.Layout.{Layout as ALayout};
-ghost use Rattle.cell_words.specs.declared.cell_word.CellWord.{CellWord as ACellWord};
-ghost use Rattle.cell_words.specs.declared.wait_word.WaitWord.{WaitWord as AWaitWord};
-ghost use Rattle.cell_words.specs.Cells.{cell_of, standing, awaiting, gather};
-ghost use Rattle.cell_words.specs.Codes.{packed_cell, packed_wait, IsNarrowCell, IsNarrowWait};
-ghost use Rattle.cell_words.specs.Words.{Fits, word_count};
-ghost use Rattle.cell_words.specs.Seen.{maker};
+ghost use Rattle.word_rules.specs.declared.layout.Layout.{Layout as ALayout};
+ghost use Rattle.word_rules.specs.declared.cell_word.CellWord.{CellWord as ACellWord};
+ghost use Rattle.word_rules.specs.declared.wait_word.WaitWord.{WaitWord as AWaitWord};
+ghost use Rattle.word_rules.specs.Cells.{cell_of, standing, awaiting, gather};
+ghost use Rattle.word_rules.specs.Codes.{packed_cell, packed_wait, IsNarrowCell, IsNarrowWait};
+ghost use Rattle.word_rules.specs.Words.{Fits, word_count, maker};
 ghost use Rattle.cell_words.specs.Tables.{HoldsChannels};
 ghost use Rattle.channel_model.specs.declared.acts.Act.{Act as AnAct};
 ghost use Rattle.channel_model.specs.Fates.{removes};
@@ -35,6 +34,9 @@ pub fn cells_and_waits_tell_who_stands()
 
 /// Between any two steps the words are those of one legal history over all channels. Each pass has seen a beginning of it, and in
 /// that all entries of its own tags. No two passes have one tag, and a tag that no pass has made no entry.
+///
+/// The state `s` is that of the channels: of the table's first part, which by `a_part_has_one_history` (`joined_words`) has one history as
+/// a table of its own has.
 pub fn a_hub_has_one_history()
     ensures { (layout : ALayout) (s : State AnEntry (View AnEntry ALayout))
         → HasOneHistory (Legal layout.kinds) (Fits layout.kinds) maker (word_count layout.kinds) s → HoldsChannels layout.kinds s }

@@ -6,12 +6,13 @@
 //! one word, which the cells of all its clauses name, decides about a wait.
 //!
 //! **The words.** Each place of a channel has a cell and a wait, and the channel's end has one cell and wait more. A cell word says what
-//! became of its place, a wait word how the wait was resolved that began there (`cell_word` and `wait_word` have the bits). A wait that
+//! became of its place, a wait word how the wait was resolved that began there (`CellWord`, `WaitWord` have the bits). A wait that
 //! stands has the word 0. A select's clauses all name the cell where its wait began. Two counters of each channel say from where to look,
-//! and its run says of which places that follow one another each was kept: an element was put there, or an offer was admitted. Two more
-//! count where the run ends too soon: its *room* counts elements that were put while fewer stood than the channel keeps, and its
-//! *decided* places are those of which is decided whether their element was kept. A channel has 16 words for these five, so that who works
-//! on one channel takes no line of the cache from who works on another: one line for the receive counter, and one for the others.
+//! and its run says of which places that follow one another each was kept: an element was put there, or an offer was admitted. One more
+//! counts where the run ends too soon: its *decided* places are those of which is decided whether their element was kept. A channel has 16
+//! words for these four, so that who works on one channel takes no line of the cache from who works on another: one line for the receive
+//! counter, and one for the others. Each place has a third word besides, its mark: in a channel that does not keep its latest it tells
+//! whether the element was kept, which the cell there does not.
 //!
 //! | word | from | to | the step, and who makes it | the exchange decides |
 //! |---|---|---|---|---|
@@ -32,8 +33,9 @@
 //! | wait | resolved | settled | `settle_at`: its coroutine | nothing: nobody else settles it |
 //! | counter | n | at least m | `raise_sends`, `raise_receives`: anybody | nothing: it is a hint |
 //! | run | to * 2^32 + from | at least that | `offer_at`, `admit_below`: who put or admitted | nothing: it is a hint |
-//! | room | to * 2^42 + from * 2^21 + count | at least that | `offer_at`: who put with room | nothing: it is a hint |
-//! | decided | to * 2^42 + from * 2^21 + count | at least that | `offer_at`, `admit_below`: who counted | nothing: it is a hint |
+//! | decided | to * 2^42 + from * 2^21 + count | at least that | `offer_at`, `was_too_many`, `admit_below`: who counts | nothing: a hint |
+//! | mark | 0 | 1 | `offer_at`: who put with room | nothing: it is a hint |
+//! | mark | 0 | 2 | `spurn_kept`: who spurned the own element | nothing: it is a hint |
 //!
 //! **What stands.** A receiver stands while its wait has the word 0. An offer stands while its wait has the word 0, and also after its wait
 //! was admitted at its clause, until its cell is emptied. So a held offer's cell stays as it is when its wait is taken, withdrawn or
@@ -72,29 +74,33 @@
 //! admit begins where the run ends. A place that somebody gave up ends a run. Who puts an element first goes on with the run over the
 //! elements that others put behind it, since who put one may say so late, or not at all where another has said more.
 //!
-//! **The decided places** spare the walks of a buffered channel the places behind one that somebody gave up. Of a place is decided whether
-//! its element was kept once an element was put there, or the wait of its offer was resolved; then it stays so. The word has places that
-//! follow one another, of each of which it is decided, and at how many an element was kept. Who counts moves its beginning on to the first
-//! place where an offer stands, and its end on as far as it is decided; so each place is looked at about twice, however often is counted.
-//! While the first stands, exactly those stand that were kept.
+//! **The decided places** spare the walks of a buffered channel the places behind one that somebody gave up, and those of a channel that
+//! does not keep its latest the places of spurned elements. Of a place is decided whether its element was kept once an element was put
+//! there, or the wait of its offer was resolved; then it stays so. The word has places that follow one another, of each of which it is
+//! decided, and at how many an element was kept. Who counts moves its beginning on to the first place where an offer stands, and its end on
+//! as far as it is decided; so each place is looked at about twice, however often is counted. While the first stands, exactly those stand
+//! that were kept.
 //!
-//! **The room** spares both walks of a send on a channel that does not keep its latest the places that they would pass, where they may
-//! answer that as many stand as are kept. Nobody spurns an element that was put while fewer stood; so while an offer stands, those behind
-//! it stand that were put with room. The word has at how many of its places that was so: where the first that stands is among them, all
-//! but as many as there are places before it are left; where it is before them, all are. Where an element that was received had spurned
-//! ones behind it that were counted over, the word may tell too few, until a new count begins; the walks are then as long as before.
+//! **The marks.** In a channel that does not keep its latest an element is kept for good if it was put while fewer stood than are kept:
+//! nobody spurns it. Who put it says so by the mark of its place, if it had counted that few before; and who spurned its own element says
+//! that. An element is marked by nobody that was put when the channel looked full, and was left because others had received meanwhile: a
+//! count ends at its place until it is received, and goes on by looking at each cell behind. Nor is one marked whose sender has not said
+//! so yet: who counts looks a few times more, and then at each cell too.
+//!
+//! **The table.** A hub stands on the first part of a table with two histories (`joined_words`), whose second part is for Jobs
+//! (`word_rules`). Eight words that stay 0 come first; so a step adds 8 to the number of its word, and passes meet by loads of the first
+//! word. Each hub has a table of its own as yet, without rows.
 //!
 //! **The history.** It is that of the channels, a list of entries; all words are a function of it, except for the counters, the run, the
-//! room and the decided places (`Words` has it).
+//! decided places and the marks (`Words` of `word_rules` has it).
 //! A `Pass` has seen a beginning of the history, and all entries of its own tags; the one that gives out tags has seen none of a tag
 //! that it has not given out.
 //!
-//! - `cell_word`, `wait_word`: the two words, field by field.
-//! - `hub`, `layout`, `pass`: the table, what it was made for, and what a thread steps with.
+//! - `hub`, `pass`: the table, and what a thread steps with.
 //! - `meeting`: how a hub is made, and its passes are split, met and ended.
 //! - `steps`, `cells`: the three steps on a word, and those on cells and waits.
 //! - `found`, `looks`: what a caller finds at a place, and what the words tell.
-//! - `decided`: of which places is decided whether their element was kept, and at how many it was.
+//! - `marks`, `decided`: of which places is decided whether their element was kept, and at how many it was.
 //! - `counting`, `placing`: whether a channel is full, or keeps too many, or an offer was one too many; a caller is placed where the
 //!   channel ends.
 //! - `registering`: a select's clause is placed where the channel ends; whether the other side stands.
@@ -103,12 +109,11 @@
 //! - `admitting`: a held offer is kept from now on; a walk for one that may be.
 //! - `own_waits`: a coroutine looks at its own wait, withdraws it or settles it.
 //! - `ending`, `counters`: where a channel ends, is closed and cancelled, its receivers are told so; from where to look, and which
-//!   places were kept, or put with room.
+//!   places were kept.
 //! - `laws`: what the words say.
 #![tactic(auto)]
 
 mod admitting;
-mod cell_word;
 mod cells;
 mod counters;
 mod counting;
@@ -117,8 +122,8 @@ mod ending;
 mod found;
 mod hub;
 mod laws;
-mod layout;
 mod looks;
+mod marks;
 mod meeting;
 mod own_waits;
 mod pass;
@@ -127,25 +132,22 @@ mod registering;
 mod removing;
 mod resolving;
 mod steps;
-mod wait_word;
 
 pub use admitting::{admit_at, admit_below, sender_at};
-pub use cell_word::{CellState, CellWord};
 pub use cells::{kind_of, load_cell, places_of};
 pub use counters::{raise_receives, raise_sends, receives_from, sends_from};
 pub use counting::{is_over, was_too_many};
 pub use ending::{close_at, end_at, receiver_at, void_at, wake};
 pub use found::{Admission, At, End, Holder, Removal, Tried, Waiter};
-pub use hub::{CellHistory, Hub, HubTable};
+pub use hub::{Hub, HubTable};
 pub use laws::{
     a_hub_has_one_history, cells_and_waits_tell_who_stands, removals_are_the_acts_that_remove,
     two_words_have_two_numbers,
 };
-pub use layout::Layout;
 pub use own_waits::{look_at, settle_at, wait_word_at, withdraw_at};
 pub use pass::Pass;
 pub use placing::{await_at, offer_at, try_await_at};
 pub use registering::{await_clause_at, offer_clause_at, offer_stands, receiver_stands};
 pub use removing::{remove, remove_admitted, remove_kept, spurn_kept};
 pub use resolving::hand;
-pub use wait_word::{ResolvedBy, WaitWord};
+pub use word_rules::{CellHistory, CellState, CellWord, Layout, ResolvedBy, WaitWord};

@@ -1,15 +1,14 @@
 //! What the words tell a caller.
 ghost use Rattle.std.specs.Prelude.{◌≡◌, true, false};
-ghost use Rattle.cell_words.specs.Codes.{packed_cell, packed_wait, IsNarrowCell, IsNarrowWait};
-ghost use Rattle.cell_words.specs.Words.{how_word, is_cancelled_end};
+ghost use Rattle.word_rules.specs.Codes.{packed_cell, packed_wait, IsNarrowCell, IsNarrowWait};
+ghost use Rattle.word_rules.specs.Words.{how_word, is_cancelled_end};
 ghost use Rattle.cell_words.specs.Looks.{holder_of, waiter_of, is_used_state, found_by_sender, found_by_receiver, end_found, lets_stand, tried_found, state_found, resolution_found, admission_found};
 ghost use Rattle.channel_model.specs.declared.standing.Resolution.TheVariants as resolved;
 
-use crate::cell_word::{CellState, CellWord};
 use crate::found::{Admission, At, End, Holder, Tried, Waiter};
-use crate::wait_word::{ResolvedBy, WaitWord};
 use channel_model::{Resolution, Settled, WaitState, Why};
 use co_base::{Tag, Value};
+use word_rules::{CellState, CellWord, ResolvedBy, WaitWord};
 
 /// The word of a cell that was not given out.
 pub(crate) fn free_cell() -> CellWord

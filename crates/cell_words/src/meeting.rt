@@ -3,19 +3,19 @@ ghost use Rattle.std.specs.Prelude.{◌≡◌, ◌<◌, ◌≤◌, IfOk, length,
 ghost use Rattle.channel_model.specs.Channels.{IsShape, places_at};
 ghost use Rattle.worded.specs.Views.{has_tag};
 ghost use Rattle.channel_model.specs.Histories.{acts_of};
-ghost use Rattle.cell_words.specs.Words.{cells_in};
+ghost use Rattle.word_rules.specs.Words.{cells_in};
 ghost use Rattle.cell_words.specs.Sizes.{AreFirsts};
 ghost use Rattle.cell_words.specs.Hubs.{shape_of, seen_by, IsOf, IsOwn, GivesTags};
 ghost use Rattle.cell_words.specs.Meetings.{MeetAnswer, EndAnswer};
 
-use crate::hub::{CellHistory, Hub};
-use crate::layout::Layout;
+use crate::hub::Hub;
 use crate::pass::Pass;
 use channel_model::{Entry, Kind};
 use co_base::{Memory, Tag};
+use joined_words::{FirstPart, QUIET_WORDS, end_in, meet_in, new_joint, split_in};
 use std::alloc::{AllocError, Global};
 use std::collections::LinkedList;
-use worded::{end, meet, new_history, split};
+use word_rules::{CellHistory, Deed, ForestSize, JobHistory, Layout, RunEntry, RunHistory, RunKey};
 
 fn places_in(kinds: &[(Kind, u32)], i: usize) -> u32
     requires { i < length kinds.now }
@@ -84,12 +84,24 @@ impl Hub {
         let layout = layout_of(alloc, kinds)?;
         let firsts = first_cells(alloc, kinds)?;
         let cells = count_cells(kinds);
-        let words = Vec::from_elem(alloc, 0u64, 2 * cells as usize + 16 * kinds.len() + 1)?;
-        let (table, seat) = new_history::<Entry, Layout, CellHistory, Global>(
+        let words = Vec::from_elem(
             alloc,
-            words.as_slice(),
-            &layout,
+            0u64,
+            QUIET_WORDS + 3 * cells as usize + 16 * kinds.len() + 1,
         )?;
+        let no_rows = ForestSize {
+            coroutines: 0,
+            rows: 0,
+        };
+        let (table, seat) = new_joint::<
+            Entry,
+            Layout,
+            CellHistory,
+            Deed,
+            ForestSize,
+            JobHistory,
+            Global,
+        >(alloc, words.as_slice(), &(layout, no_rows))?;
         let_go(words);
         let kinds = Vec::from_slice(alloc, kinds)?;
         Ok((
@@ -118,7 +130,7 @@ impl Hub {
         ensures sees { (seen_by result).seen ≡ (seen_by pass.old).seen }
         ensures none { acts_of tag (seen_by result).seen ≡ [] }
     {
-        let seat = split::<Entry, Layout, CellHistory>(
+        let seat = split_in::<RunEntry, RunKey, RunHistory, Entry, Layout, CellHistory, FirstPart>(
             &self.table.shared,
             &mut pass.seat,
             tag as u64,
@@ -135,7 +147,11 @@ impl Hub {
         ensures met { MeetAnswer (seen_by a.old) (seen_by b.old) (seen_by a.new) }
         ensures same { seen_by b.new ≡ seen_by b.old }
     {
-        meet::<Entry, Layout, CellHistory>(&self.table.shared, &mut a.seat, &mut b.seat)
+        meet_in::<RunEntry, RunKey, RunHistory, Entry, Layout, CellHistory, FirstPart>(
+            &self.table.shared,
+            &mut a.seat,
+            &mut b.seat,
+        )
     }
 
     /// `main` takes in what another pass has seen, and its callers.
@@ -146,6 +162,10 @@ impl Hub {
         ensures ended { EndAnswer (seen_by main.old) (seen_by pass) (seen_by main.new) }
     {
         let Pass { seat } = pass;
-        end::<Entry, Layout, CellHistory>(&self.table.shared, &mut main.seat, seat)
+        end_in::<RunEntry, RunKey, RunHistory, Entry, Layout, CellHistory, FirstPart>(
+            &self.table.shared,
+            &mut main.seat,
+            seat,
+        )
     }
 }

@@ -3,7 +3,7 @@ ghost use Rattle.std.specs.Prelude.{◌≡◌, Some};
 ghost use Rattle.channel_model.specs.declared.acts.Act.TheVariants.{Settle};
 ghost use Rattle.channel_model.specs.Histories.{replay};
 ghost use Rattle.channel_model.specs.Answers.{IsOwnWait, IsReadyWait, outcome_at, state_of_wait};
-ghost use Rattle.cell_words.specs.Words.{IsCell};
+ghost use Rattle.word_rules.specs.Words.{IsCell};
 ghost use Rattle.cell_words.specs.Hubs.{shape_of, seen_by, IsOwn};
 ghost use Rattle.cell_words.specs.Seen.{Sees, Makes};
 ghost use Rattle.cell_words.specs.Answers.{IsWaitWord, WithdrawAt};
@@ -14,9 +14,9 @@ use crate::looks::{
     is_cancelled_end, resolution_found, standing_wait, state_found, withdrawn_wait,
 };
 use crate::pass::Pass;
-use crate::wait_word::WaitWord;
 use channel_model::{Act, Entry, Settled, WaitState, Why, outcome};
 use co_base::{Tag, WaitId};
+use word_rules::WaitWord;
 
 /// How far the own wait is.
 pub fn look_at(hub: &Hub, pass: &mut Pass, who: Tag, w: WaitId) -> WaitState

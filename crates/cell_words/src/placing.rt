@@ -1,28 +1,27 @@
 //! A caller is placed where the channel ends, by an exchange of the free cell there; or it sees what is at the place.
-ghost use Rattle.std.specs.Prelude.{◌≡◌, ◌≢◌, ◌+◌, ◌<◌, false, true, length};
+ghost use Rattle.std.specs.Prelude.{◌≡◌, ◌≢◌, ◌+◌, ◌<◌, false, true, length, Some};
 ghost use Rattle.channel_model.specs.declared.acts.Kind.TheVariants as kinds;
 ghost use Rattle.channel_model.specs.Channels.{kind_at, places_at, is_signal, suspends, is_full};
 ghost use Rattle.channel_model.specs.Laws.{NoneBelow};
 ghost use Rattle.cell_words.specs.declared.found.At.TheVariants as at;
-ghost use Rattle.cell_words.specs.Cells.{gather};
-ghost use Rattle.cell_words.specs.Words.{IsCell, WereKept, WerePut, had_room};
+ghost use Rattle.word_rules.specs.Cells.{gather};
+ghost use Rattle.word_rules.specs.Words.{IsCell, WereKept, fate};
 ghost use Rattle.cell_words.specs.Hubs.{shape_of, seen_by, IsOwn};
 ghost use Rattle.cell_words.specs.Puts.{was_put};
 ghost use Rattle.cell_words.specs.Seen.{Sees, at_channel};
 ghost use Rattle.cell_words.specs.Answers.{stands, OfferAt, OfferHere, ReceiveAt, TriedReceiveAt};
 
-use crate::cell_word::{CellState, CellWord};
 use crate::cells::{exchange_cell, kind_of, load_cell, places_of};
-use crate::counters::{
-    KeptRun, RoomCount, kept_run, lift_run, raise_room, raise_run, receives_from, room_count,
-};
+use crate::counters::{KeptRun, kept_run, lift_run, raise_run, receives_from};
 use crate::counting::{count_latest, has_room};
 use crate::found::At;
 use crate::hub::Hub;
 use crate::looks::{found_by_receiver, found_by_sender, free_cell, is_used, own_cell, plain_cell};
+use crate::marks::mark;
 use crate::pass::Pass;
 use channel_model::{Act, Entry, Kind};
 use co_base::{ChannelId, Place, Tag, Value, WaitId};
+use word_rules::{CellState, CellWord};
 
 // Places an offer that waits.
 #[inline(always)]
@@ -172,22 +171,11 @@ fn run_up_to(hub: &Hub, pass: &mut Pass, who: Tag, c: ChannelId, place: Place) -
     say_run(hub, pass, who, c, run, to)
 }
 
-// Counts the element, if it was put, and had room.
-fn say_room(
-    hub: &Hub,
-    pass: &mut Pass,
-    who: Tag,
-    c: ChannelId,
-    room: RoomCount,
-    low: Place,
-    place: Place,
-    full: bool,
-    put: At,
-)
+// Marks the place, if the element was put there, and had room.
+fn mark_put(hub: &Hub, pass: &mut Pass, who: Tag, c: ChannelId, place: Place, full: bool, put: At)
     requires own { IsOwn hub.now pass.old who }
-    requires channel { c < length (shape_of hub.now) }
-    requires put { put ≡ at.Put → WerePut (shape_of hub.now) (seen_by pass.old).seen c room.from room.to room.count }
-    requires room { full ≡ false → put ≡ at.Put → had_room (shape_of hub.now) (seen_by pass.old).seen c place ≡ true }
+    requires at { IsCell (shape_of hub.now) c place }
+    requires kept { full ≡ false → put ≡ at.Put → fate (shape_of hub.now) (seen_by pass.old).seen c place ≡ Some true }
     ensures own { IsOwn hub.now pass.new who }
     ensures same { seen_by pass.new ≡ seen_by pass.old }
 {
@@ -195,13 +183,13 @@ fn say_room(
         return;
     }
     match put {
-        At::Put => raise_room(hub, pass, who, c, room, low, place),
+        At::Put => mark(hub, pass, who, c, place, true),
         At::Spent | At::Open | At::Placed => {}
         At::Waiting(_) | At::Kept(_) | At::Closed(_) | At::Gone => {}
     }
 }
 
-// The same as `put_at`, in a channel that does not keep its latest, and counts the element if it had room.
+// The same as `put_at`, in a channel that does not keep its latest, and marks the place if the element had room: then nobody spurns it.
 fn latest_at(
     hub: &Hub,
     pass: &mut Pass,
@@ -219,11 +207,9 @@ fn latest_at(
     ensures at { OfferAt (shape_of hub.now) who c place value (seen_by pass.old) (seen_by pass.new) result }
     ensures not_held { result ≢ at.Placed }
 {
-    let room = room_count(hub, pass, who, c);
-    let full = count_latest(hub, pass, who, c, room, place, most);
-    let low = receives_from(hub, pass, who, c);
+    let full = count_latest(hub, pass, who, c, place, most);
     let put = put_at(hub, pass, who, c, place, value);
-    say_room(hub, pass, who, c, room, low, place, full, put);
+    mark_put(hub, pass, who, c, place, full, put);
     put
 }
 

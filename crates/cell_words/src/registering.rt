@@ -6,8 +6,8 @@ ghost use Rattle.std.specs.Prelude.{◌≡◌, ◌<◌, ◌≤◌, true, length}
 ghost use Rattle.channel_model.specs.Channels.{kind_at, places_at, suspends};
 ghost use Rattle.channel_model.specs.Laws.{NoneBelow};
 ghost use Rattle.channel_model.specs.Registers.{main_at};
-ghost use Rattle.cell_words.specs.Codes.{IsNarrowCell};
-ghost use Rattle.cell_words.specs.Words.{IsCell};
+ghost use Rattle.word_rules.specs.Codes.{IsNarrowCell};
+ghost use Rattle.word_rules.specs.Words.{IsCell};
 ghost use Rattle.cell_words.specs.Looks.{is_nobody};
 ghost use Rattle.cell_words.specs.Hubs.{shape_of, seen_by, IsOwn};
 ghost use Rattle.cell_words.specs.Seen.{at_channel};
@@ -15,7 +15,6 @@ ghost use Rattle.cell_words.specs.Answers.{Receives};
 ghost use Rattle.cell_words.specs.Clauses.{IsMainCell, BeganElsewhere, MayPlace, clause_word};
 ghost use Rattle.cell_words.specs.Clauses.{ClauseOfferAt, ClauseReceiveAt, ReceiverStandsAt, OfferStandsAt};
 
-use crate::cell_word::{CellState, CellWord};
 use crate::cells::{exchange_cell, load_cell, load_wait, number_of, places_of};
 use crate::counting::stands_at;
 use crate::found::{At, Waiter};
@@ -23,9 +22,9 @@ use crate::hub::Hub;
 use crate::looks::{found_by_receiver, found_by_sender, free_cell, is_used};
 use crate::pass::Pass;
 use crate::resolving::wait_cell;
-use crate::wait_word::{ResolvedBy, WaitWord};
 use channel_model::{Act, Entry};
 use co_base::{ChannelId, Place, Tag, Value, WaitId};
+use word_rules::{CellState, CellWord, ResolvedBy, WaitWord};
 
 /// The wait of a clause at this place: that of its select, or the one that begins here.
 fn main_at(c: ChannelId, place: Place, main: Option<WaitId>) -> WaitId

@@ -2,25 +2,25 @@
 //! is removed wherever it stands.
 ghost use Rattle.std.specs.Prelude.{◌≡◌, ◌<◌};
 ghost use Rattle.channel_model.specs.Laws.{NoneBelow};
-ghost use Rattle.cell_words.specs.Words.{IsCell, how_word};
+ghost use Rattle.word_rules.specs.Words.{IsCell, how_word};
 ghost use Rattle.cell_words.specs.Hubs.{shape_of, seen_by, IsOwn};
 ghost use Rattle.cell_words.specs.Seen.{at_channel};
 ghost use Rattle.cell_words.specs.Answers.{Offers, RemoveAnswer, IsKept, WasPut, IsAdmitted, MayRemove, MayRemoveHeld, EmptyAnswer, WasTooMany, SpurnAt};
-ghost use Rattle.cell_words.specs.Codes.{IsNarrowCell, IsNarrowWait};
+ghost use Rattle.word_rules.specs.Codes.{IsNarrowCell, IsNarrowWait};
 ghost use Rattle.cell_words.specs.Looks.{offer_word};
 ghost use Rattle.cell_words.specs.Removals.{removal_act, how_removed};
 
-use crate::cell_word::{CellState, CellWord};
 use crate::cells::{exchange_cell, exchange_wait, load_wait};
 use crate::found::{Holder, Removal, Tried, Waiter};
 use crate::hub::Hub;
 use crate::looks::{plain_cell, standing_wait, tried_found};
+use crate::marks::mark;
 use crate::pass::Pass;
 use crate::registering::is_nobody;
 use crate::resolving::{owner_of, wait_cell};
-use crate::wait_word::{ResolvedBy, WaitWord};
 use channel_model::{Act, Entry};
 use co_base::{ChannelId, Place, Tag, Value};
+use word_rules::{CellState, CellWord, ResolvedBy, WaitWord};
 
 fn removal_entry(who: Tag, removal: Removal, c: ChannelId, place: Place, value: Value) -> Entry
     ensures { result ≡ record { who = who; act = removal_act removal c place value } }
@@ -212,7 +212,10 @@ pub fn spurn_kept(
     let before = plain_cell(CellState::Buffered, value);
     let after = plain_cell(CellState::Emptied, value);
     match exchange_cell(hub, pass, who, c, place, before, after, &entry) {
-        None => true,
+        None => {
+            mark(hub, pass, who, c, place, false);
+            true
+        }
         Some(_) => false,
     }
 }

@@ -3,7 +3,7 @@ ghost use Rattle.std.specs.Prelude.{◌≡◌, ℕ, false};
 ghost use Rattle.co_base.specs.declared.names.WaitId.{WaitId as AWaitId};
 ghost use Rattle.channel_model.specs.Channels.{kind_at, is_signal};
 ghost use Rattle.channel_model.specs.Laws.{NoneBelow};
-ghost use Rattle.cell_words.specs.Words.{number, IsCell};
+ghost use Rattle.word_rules.specs.Words.{number, IsCell};
 ghost use Rattle.cell_words.specs.Hubs.{shape_of, seen_by, IsOwn};
 ghost use Rattle.cell_words.specs.Seen.{Sees, at_channel};
 ghost use Rattle.cell_words.specs.Answers.{IsHolder, IsHeld, Receives, OwnerAnswer, HandAnswer};
@@ -13,9 +13,9 @@ use crate::found::{Holder, Waiter};
 use crate::hub::Hub;
 use crate::looks::{holder_of, standing_wait};
 use crate::pass::Pass;
-use crate::wait_word::{ResolvedBy, WaitWord};
 use channel_model::{Act, Entry};
 use co_base::{ChannelId, Place, Tag, Value};
+use word_rules::{ResolvedBy, WaitWord};
 
 /// The number of the cell where a wait began.
 pub(crate) fn wait_cell(hub: &Hub, c: ChannelId, place: Place, holder: Holder) -> usize

@@ -1,18 +1,22 @@
 //! The three steps on a word of a hub.
 ghost use Rattle.std.specs.Prelude.{◌≡◌, ◌<◌};
-ghost use Rattle.cell_words.specs.Words.{word_count, Fits};
+ghost use Rattle.word_rules.specs.Words.{word_count, Fits, maker};
 ghost use Rattle.cell_words.specs.Hubs.{shape_of, seen_by, IsOwn};
-ghost use Rattle.cell_words.specs.Seen.{maker, Sees, ExchangeAnswer};
+ghost use Rattle.cell_words.specs.Seen.{Sees, ExchangeAnswer};
 ghost use Rattle.cell_words.specs.Answers.{MayTurn};
 ghost use Rattle.channel_model.specs.Histories.{Legal};
 ghost use Rattle.worded.specs.Exchanges.{MayLift};
 
-use crate::hub::{CellHistory, Hub};
-use crate::layout::Layout;
+use crate::hub::Hub;
 use crate::pass::Pass;
 use channel_model::Entry;
 use co_base::Tag;
-use worded::{exchange, lift, load};
+use either::Either;
+use joined_words::{FirstPart, QUIET_WORDS, exchange_in, lift_in, load_in};
+use word_rules::{CellHistory, Layout, RunEntry, RunHistory, RunKey};
+
+// The table's word that is the hub's first.
+const FIRST_WORD: usize = QUIET_WORDS;
 
 /// The word as it is now.
 pub(crate) fn load_word(hub: &Hub, pass: &mut Pass, who: Tag, word: usize) -> u64
@@ -22,7 +26,12 @@ pub(crate) fn load_word(hub: &Hub, pass: &mut Pass, who: Tag, word: usize) -> u6
     ensures sees { Sees (seen_by pass.old) (seen_by pass.new) }
     ensures found { Fits (shape_of hub.now) (seen_by pass.new).seen word result }
 {
-    load::<Entry, Layout, CellHistory>(&hub.table.shared, &mut pass.seat, word)
+    load_in::<RunEntry, RunKey, RunHistory, Entry, Layout, CellHistory, FirstPart>(
+        &hub.table.shared,
+        &mut pass.seat,
+        FIRST_WORD,
+        word,
+    )
 }
 
 /// Makes the entry by turning the word from `old` into `new`, or finds another word.
@@ -41,7 +50,15 @@ pub(crate) fn exchange_word(
     ensures own { IsOwn hub.now pass.new who }
     ensures told { ExchangeAnswer (shape_of hub.now) word old entry.now (seen_by pass.old) (seen_by pass.new) result }
 {
-    exchange::<Entry, Layout, CellHistory>(&hub.table.shared, &mut pass.seat, word, old, new, entry)
+    exchange_in::<RunEntry, RunKey, RunHistory, Entry, Layout, CellHistory, FirstPart>(
+        &hub.table.shared,
+        &mut pass.seat,
+        FIRST_WORD,
+        word,
+        old,
+        new,
+        &Either::Left(*entry),
+    )
 }
 
 /// Raises the word to at least `least`. It shows nothing, so what was seen last stays the last that was seen.
@@ -52,5 +69,11 @@ pub(crate) fn lift_word(hub: &Hub, pass: &mut Pass, who: Tag, word: usize, least
     ensures own { IsOwn hub.now pass.new who }
     ensures same { seen_by pass.new ≡ seen_by pass.old }
 {
-    lift::<Entry, Layout, CellHistory>(&hub.table.shared, &mut pass.seat, word, least)
+    lift_in::<RunEntry, RunKey, RunHistory, Entry, Layout, CellHistory, FirstPart>(
+        &hub.table.shared,
+        &mut pass.seat,
+        FIRST_WORD,
+        word,
+        least,
+    )
 }

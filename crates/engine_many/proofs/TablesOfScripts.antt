@@ -3,7 +3,7 @@ use Rattle.std.specs.Prelude.{◌≡◌, ℕ, zero, suc, ◌+◌, ◌*◌, ◌<�
 use Rattle.std.proofs.Common.{arith}
 use Rattle.channel_model.specs.declared.acts.Kind.TheVariants.{Signal}
 use Rattle.channel_model.specs.Channels.{Shape, IsShape, HasPlaces}
-use Rattle.cell_words.specs.Words.{cells_in}
+use Rattle.word_rules.specs.Words.{cells_in}
 use Rattle.script_grammar.specs.Programs.{Program, Declared, shape_of, places_in}
 use Rattle.script_grammar.specs.WellFormed.{IsProgram}
 use Rattle.script_grammar.specs.Tags.{job_count}

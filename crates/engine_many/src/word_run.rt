@@ -112,8 +112,8 @@ fn run_seated<
 ) -> Result<(Done<B>, Pass, JobPass), Memory>
     requires workers { (2 ≤ workers) × (workers ≤ 16) }
     requires script { program_of script.now ≡ N.program }
-    requires hub { IsNamedHub N.hub_table N.hub_layout hub.now × IsOwn hub.now pass 0 × GivesTags (0 ∷ []) pass }
-    requires forest { IsNamedForest N.forest_table N.forest_size forest.now × IsOwnJobs forest.now jobs 0 × GivesJobTags (0 ∷ []) jobs }
+    requires hub { IsNamedHub N.hub_table N.hub_key hub.now × IsOwn hub.now pass 0 × GivesTags (0 ∷ []) pass }
+    requires forest { IsNamedForest N.forest_table N.forest_key forest.now × IsOwnJobs forest.now jobs 0 × GivesJobTags (0 ∷ []) jobs }
     requires channels { (shape_of hub.now ≡ floor_shape N.program) × ((seen_by pass).seen ≡ []) }
     requires rows { IsFreshFloor (job_shape N.program) (floor_seen (jobs_seen_by jobs)) }
     ensures pass { IfOk result (λ r. IsOf hub.now r.1) }

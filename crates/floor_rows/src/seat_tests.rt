@@ -66,7 +66,7 @@ fn on_a_hub<N: HubName + Send + Sync, R: Threads + Wait + Sync>(
     hub: &Hub,
     pass: Pass,
 ) -> Result<(Offered, Got), Memory>
-    requires named { IsNamedHub N.hub_table N.hub_layout hub.now }
+    requires named { IsNamedHub N.hub_table N.hub_key hub.now }
     requires own { IsOwn hub.now pass 0 }
     requires gives { GivesTags (0 ∷ []) pass }
     requires channel { 0 < length (shape_of hub.now) }
@@ -125,7 +125,7 @@ fn child_seen<J: SharedJobs + Drop>(main: &mut J, child: J) -> Result<Option<Job
 
 /// The same over seats of the forest that `N` names.
 fn on_a_forest<N: ForestName>(forest: &Forest, pass: JobPass) -> Result<Option<JobView>, Memory>
-    requires named { IsNamedForest N.forest_table N.forest_size forest.now }
+    requires named { IsNamedForest N.forest_table N.forest_key forest.now }
     requires own { IsOwnJobs forest.now pass 0 }
     requires gives { GivesJobTags (0 ∷ []) pass }
     requires fresh { IsFreshFloor (record { coroutines = 2; rows = 2 }) (floor_seen (jobs_seen_by pass)) }

@@ -4,7 +4,7 @@ ghost use Rattle.std.specs.Prelude.{◌≡◌, ◌<◌, false, true, length, Mat
 ghost use Rattle.channel_model.specs.Channels.{kind_at, is_signal, suspends};
 ghost use Rattle.channel_model.specs.Histories.{replay};
 ghost use Rattle.channel_model.specs.Needs.{JoinsWait};
-ghost use Rattle.cell_words.specs.Cells.{spot};
+ghost use Rattle.word_rules.specs.Cells.{spot};
 ghost use Rattle.cell_words.specs.Hubs.{shape_of, seen_by, IsOwn};
 
 use crate::on_passes::{settle, withdraw};

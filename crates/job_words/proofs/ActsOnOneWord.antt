@@ -23,12 +23,12 @@ use Rattle.job_model.proofs.Reasons.{reason_holds_on}
 use Rattle.worded.specs.Views.{has_tag}
 use Rattle.worded.specs.Histories.{entries_of}
 use Rattle.worded.specs.Exchanges.{OthersAdded, MayEnter}
-use Rattle.job_words.specs.declared.job_word.JobWord.{JobWord}
-use Rattle.job_words.specs.declared.size.ForestSize.{ForestSize}
-use Rattle.job_words.specs.declared.deed.Deed.{Deed}
-use Rattle.job_words.specs.declared.deed.Deed.TheVariants.{Act}
-use Rattle.job_words.specs.Rows.{job_code, IsNarrow, word_of, rest_of, cause_code, rest_after_body, word_without_body, cause_from, end_from}
-use Rattle.job_words.specs.Deeds.{shape_of, IsSize, doer, history_of, store_of, Store, IsDone, Fits, job_word, IsSmallCause, IsSmall, IsSmallRow}
+use Rattle.word_rules.specs.declared.job_word.JobWord.{JobWord}
+use Rattle.word_rules.specs.declared.size.ForestSize.{ForestSize}
+use Rattle.word_rules.specs.declared.deed.Deed.{Deed}
+use Rattle.word_rules.specs.declared.deed.Deed.TheVariants.{Act}
+use Rattle.word_rules.specs.Rows.{job_code, IsNarrow, word_of, rest_of, cause_code, rest_after_body, word_without_body, cause_from, end_from}
+use Rattle.word_rules.specs.Deeds.{shape_of, IsSize, doer, history_of, store_of, Store, IsDone, Fits, job_word, IsSmallCause, IsSmall, IsSmallRow}
 use Rattle.job_words.specs.Passes.{Seen, floor_of}
 use Rattle.job_words.specs.Attaches.{IsAttached}
 use Rattle.job_words.proofs.DeedsAddUp.{tree_is, is_legal, history-append, no_deeds}

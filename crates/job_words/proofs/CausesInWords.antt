@@ -15,11 +15,11 @@ use Rattle.job_model.specs.Laws.{is_cause, IsSoundRow}
 use Rattle.job_model.proofs.Lasting.{Lasts}
 use Rattle.job_model.proofs.Sound.{body_cancelled, end_cancelled}
 use Rattle.job_model.proofs.Reasons.{reason_holds_on, new_not_cancelled, cancelled_not_cancellable}
-use Rattle.job_words.specs.declared.job_word.JobWord.{JobWord}
-use Rattle.job_words.specs.declared.size.ForestSize.{ForestSize}
-use Rattle.job_words.specs.declared.deed.Deed.{Deed}
-use Rattle.job_words.specs.Rows.{cause_code, cause_from, rest_of, word_of}
-use Rattle.job_words.specs.Deeds.{shape_of, IsSize, history_of, store_of, IsDone, IsSmall, IsSmallRow}
+use Rattle.word_rules.specs.declared.job_word.JobWord.{JobWord}
+use Rattle.word_rules.specs.declared.size.ForestSize.{ForestSize}
+use Rattle.word_rules.specs.declared.deed.Deed.{Deed}
+use Rattle.word_rules.specs.Rows.{cause_code, cause_from, rest_of, word_of}
+use Rattle.word_rules.specs.Deeds.{shape_of, IsSize, history_of, store_of, IsDone, IsSmall, IsSmallRow}
 use Rattle.job_words.specs.Passes.{Seen, Sees, Goes}
 use Rattle.job_words.specs.Attaches.{IsAttached, IsWord}
 use Rattle.job_words.specs.Acts.{IsCauseOf}

@@ -7,7 +7,7 @@ use Rattle.std.proofs.lemmas.List.{length-append}
 use Rattle.job_model.specs.Trees.{is_among}
 use Rattle.job_model.specs.Families.{newest, newest_after, older, older_after}
 use Rattle.job_model.proofs.Rows.{same}
-use Rattle.job_words.specs.Rows.{row_code}
+use Rattle.word_rules.specs.Rows.{row_code}
 use Rattle.job_model.proofs.Siblings.{newest_from, newest_from-none}
 
 -- the place of a child, from the oldest on

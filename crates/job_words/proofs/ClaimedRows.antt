@@ -12,9 +12,9 @@ use Rattle.job_model.specs.Trees.{Tree}
 use Rattle.job_model.specs.Needs.{IsRowFor}
 use Rattle.job_model.specs.Families.{IsEnded}
 use Rattle.job_model.specs.Answers.{AttachAnswer}
-use Rattle.job_words.specs.declared.job_word.JobWord.{JobWord}
-use Rattle.job_words.specs.declared.size.ForestSize.{ForestSize}
-use Rattle.job_words.specs.Deeds.{shape_of, history_of, rows_claimed, store_of, IsDone}
+use Rattle.word_rules.specs.declared.job_word.JobWord.{JobWord}
+use Rattle.word_rules.specs.declared.size.ForestSize.{ForestSize}
+use Rattle.word_rules.specs.Deeds.{shape_of, history_of, rows_claimed, store_of, IsDone}
 use Rattle.job_words.specs.Passes.{Seen, Goes, floor_seen}
 use Rattle.job_words.specs.Attaches.{IsClaimed, ActedNow, AttachedNow, HasRow, RowAnswer}
 use Rattle.job_words.proofs.StepsAsCalls.{goes_trans, claims_last, looked, made, at_step}

@@ -19,12 +19,12 @@ use Rattle.job_model.specs.Needs.{MayEndBody, MayTell}
 use Rattle.job_model.specs.Families.{IsEnded, IsCancellingOrEnded}
 use Rattle.job_model.specs.Floors.{AtStep, Looked}
 use Rattle.job_model.specs.Answers.{StartAnswer, EndBodyAnswer, CancelAnswer, FinishAnswer, GoneAnswer, IsNotNew, IsNotDone, is_owed}
-use Rattle.job_words.specs.declared.size.ForestSize.{ForestSize}
-use Rattle.job_words.specs.declared.job_word.JobWord.{JobWord}
+use Rattle.word_rules.specs.declared.size.ForestSize.{ForestSize}
+use Rattle.word_rules.specs.declared.job_word.JobWord.{JobWord}
 use Rattle.job_words.specs.declared.decision.Decision.{Decision}
 use Rattle.job_words.specs.declared.decision.Decision.TheVariants.{Keep, Change}
-use Rattle.job_words.specs.Rows.{cause_code, end_from, rest_after_body, word_of}
-use Rattle.job_words.specs.Deeds.{shape_of, IsSize, IsDone, store_of}
+use Rattle.word_rules.specs.Rows.{cause_code, end_from, rest_after_body, word_of}
+use Rattle.word_rules.specs.Deeds.{shape_of, IsSize, IsDone, store_of}
 use Rattle.job_words.specs.Passes.{Seen, Goes, floor_seen}
 use Rattle.job_words.specs.Attaches.{IsAttached, IsWord}
 use Rattle.job_words.specs.Acts.{MayAct, IsCauseOf}

@@ -10,9 +10,9 @@ use Rattle.job_model.specs.Acts.{attaches}
 use Rattle.job_model.specs.Histories.{replay, replay_from, Legal, LegalFrom, acts_of}
 use Rattle.job_model.specs.Floors.{attacher, is_claimed_by}
 use Rattle.worded.specs.Histories.{entries_of}
-use Rattle.job_words.specs.declared.deed.Deed.{Deed}
-use Rattle.job_words.specs.declared.deed.Deed.TheVariants.{Act, Claim, StoreLink, StoreJob}
-use Rattle.job_words.specs.Deeds.{doer, history_of, rows_claimed, Store, put, nothing_done, after_deed, store_from, store_of, IsStored, DeedNeeds, DoneFrom, IsDone}
+use Rattle.word_rules.specs.declared.deed.Deed.{Deed}
+use Rattle.word_rules.specs.declared.deed.Deed.TheVariants.{Act, Claim, StoreLink, StoreJob}
+use Rattle.word_rules.specs.Deeds.{doer, history_of, rows_claimed, Store, put, nothing_done, after_deed, store_from, store_of, IsStored, DeedNeeds, DoneFrom, IsDone}
 
 pub store_from-append : (s : Store) (xs ys : List Deed) → store_from s (xs ++ ys) ≡ store_from (store_from s xs) ys
 unfolding store_from

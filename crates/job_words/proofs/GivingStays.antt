@@ -5,8 +5,8 @@ use Rattle.job_model.specs.declared.acts.JobAct.{JobAct}
 use Rattle.job_model.specs.declared.acts.JobKind.{JobKind}
 use Rattle.job_model.specs.declared.floor.AttachError.{AttachError}
 use Rattle.job_model.specs.declared.floor.AttachError.TheVariants.{NoRow, Used, ParentEnded}
-use Rattle.job_words.specs.declared.job_word.JobWord.{JobWord}
-use Rattle.job_words.specs.declared.size.ForestSize.{ForestSize}
+use Rattle.word_rules.specs.declared.job_word.JobWord.{JobWord}
+use Rattle.word_rules.specs.declared.size.ForestSize.{ForestSize}
 use Rattle.job_words.specs.Passes.{Seen, tags_given}
 use Rattle.job_words.specs.Attaches.{ActedNow, RowAnswer}
 

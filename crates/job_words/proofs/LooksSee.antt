@@ -14,12 +14,12 @@ use Rattle.job_model.specs.Answers.{LookAnswer, view_of}
 use Rattle.job_model.specs.Laws.{is_cause, IsSoundRow}
 use Rattle.job_model.proofs.Lasting.{Lasts, parent_lasts}
 use Rattle.job_model.proofs.FailingUp.{kind_lasts}
-use Rattle.job_words.specs.declared.job_word.JobWord.{JobWord}
-use Rattle.job_words.specs.declared.link_word.LinkWord.{LinkWord}
-use Rattle.job_words.specs.declared.size.ForestSize.{ForestSize}
-use Rattle.job_words.specs.declared.deed.Deed.{Deed}
-use Rattle.job_words.specs.Rows.{row_code, rest_of, job_code, link_code, word_of, link_word_of, link_at, without_hint, bit, IsNarrowLink}
-use Rattle.job_words.specs.Deeds.{shape_of, IsSize, store_from, store_of, job_word, MayBeLink, IsDone, is_valued, IsSmall, IsSmallRow}
+use Rattle.word_rules.specs.declared.job_word.JobWord.{JobWord}
+use Rattle.word_rules.specs.declared.link_word.LinkWord.{LinkWord}
+use Rattle.word_rules.specs.declared.size.ForestSize.{ForestSize}
+use Rattle.word_rules.specs.declared.deed.Deed.{Deed}
+use Rattle.word_rules.specs.Rows.{row_code, rest_of, job_code, link_code, word_of, link_word_of, link_at, without_hint, bit, IsNarrowLink}
+use Rattle.word_rules.specs.Deeds.{shape_of, IsSize, store_from, store_of, job_word, MayBeLink, IsDone, is_valued, IsSmall, IsSmallRow}
 use Rattle.job_words.specs.Passes.{Seen, Goes, floor_seen}
 use Rattle.job_words.specs.Attaches.{IsAttached, IsWord}
 use Rattle.job_words.specs.Looks.{WalkAnswer, KindAnswer, view_from, cause_in, row_from, value_in}

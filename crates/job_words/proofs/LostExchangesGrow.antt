@@ -7,9 +7,9 @@ use Rattle.job_model.specs.Trees.{Job, Tree}
 use Rattle.job_model.specs.Histories.{replay}
 use Rattle.job_model.proofs.Lasting.{Lasts, attached_lasts}
 use Rattle.job_model.proofs.Short.{legal_is_short}
-use Rattle.job_words.specs.declared.size.ForestSize.{ForestSize}
-use Rattle.job_words.specs.declared.deed.Deed.{Deed}
-use Rattle.job_words.specs.Deeds.{shape_of, IsSize, history_of, store_of, job_word, IsDone}
+use Rattle.word_rules.specs.declared.size.ForestSize.{ForestSize}
+use Rattle.word_rules.specs.declared.deed.Deed.{Deed}
+use Rattle.word_rules.specs.Deeds.{shape_of, IsSize, history_of, store_of, job_word, IsDone}
 use Rattle.job_words.specs.Passes.{Seen, Goes, Sees, IsMine}
 use Rattle.job_words.specs.Attaches.{IsAttached, Grew}
 use Rattle.job_words.proofs.DeedsAddUp.{history-append, tree_is, is_legal, store_more}

@@ -15,12 +15,12 @@ use Rattle.job_model.specs.Families.{newest, children_of}
 use Rattle.job_model.proofs.Lasting.{Lasts, history_keeps, attached_lasts}
 use Rattle.worded.specs.Views.{has_tag}
 use Rattle.worded.specs.Exchanges.{OthersAdded, MayEnter, MayLift}
-use Rattle.job_words.specs.declared.job_word.JobWord.{JobWord}
-use Rattle.job_words.specs.declared.size.ForestSize.{ForestSize}
-use Rattle.job_words.specs.declared.deed.Deed.{Deed}
-use Rattle.job_words.specs.declared.deed.Deed.TheVariants.{Act, Claim, StoreLink, StoreJob}
-use Rattle.job_words.specs.Rows.{row_code, job_code, link_code, IsNarrow, word_of, new_word, new_link, with_newest}
-use Rattle.job_words.specs.Deeds.{shape_of, IsSize, doer, history_of, Store, put, after_deed, store_from, store_of, DeedNeeds, DoneFrom, IsDone, IsLinkTo, IsKept, word_or, job_word, MayBeLink, AreClaimedBelow, Fits}
+use Rattle.word_rules.specs.declared.job_word.JobWord.{JobWord}
+use Rattle.word_rules.specs.declared.size.ForestSize.{ForestSize}
+use Rattle.word_rules.specs.declared.deed.Deed.{Deed}
+use Rattle.word_rules.specs.declared.deed.Deed.TheVariants.{Act, Claim, StoreLink, StoreJob}
+use Rattle.word_rules.specs.Rows.{row_code, job_code, link_code, IsNarrow, word_of, new_word, new_link, with_newest}
+use Rattle.word_rules.specs.Deeds.{shape_of, IsSize, doer, history_of, Store, put, after_deed, store_from, store_of, DeedNeeds, DoneFrom, IsDone, IsLinkTo, IsKept, word_or, job_word, MayBeLink, AreClaimedBelow, Fits}
 use Rattle.job_words.specs.Passes.{Seen, IsMine}
 use Rattle.job_words.proofs.OneCodeOneWord.{job_code_is, job_code_some}
 use Rattle.job_words.proofs.DeedsAddUp.{store_push, store_more, IsDone_push, IsDone-rest, tree_from, legal_from, claims_kept}

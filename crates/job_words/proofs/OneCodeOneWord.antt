@@ -3,9 +3,9 @@ use Rattle.std.specs.Prelude.{◌≡◌, ℕ, ◌+◌, ◌*◌, ◌==◌, ◌<�
 use Rattle.std.proofs.Common.{sym, ap, ◌∙◌, arith}
 use Rattle.job_model.specs.declared.acts.JobState.{JobState}
 use Rattle.job_model.specs.declared.acts.JobState.TheVariants.{New, Active, Completing, Cancelling, Cancelled, Completed}
-use Rattle.job_words.specs.declared.job_word.JobWord.{JobWord}
-use Rattle.job_words.specs.declared.link_word.LinkWord.{LinkWord}
-use Rattle.job_words.specs.Rows.{bit, state_code, job_code, link_code, IsNarrow, IsNarrowLink}
+use Rattle.word_rules.specs.declared.job_word.JobWord.{JobWord}
+use Rattle.word_rules.specs.declared.link_word.LinkWord.{LinkWord}
+use Rattle.word_rules.specs.Rows.{bit, state_code, job_code, link_code, IsNarrow, IsNarrowLink}
 
 pub bit_is : (a b : Bool) → bit a ≡ bit b → a ≡ b
 bit_is false false e = refl

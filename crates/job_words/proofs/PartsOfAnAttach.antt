@@ -11,13 +11,13 @@ use Rattle.job_model.specs.Laws.{HasFamilies}
 use Rattle.job_model.proofs.Rows.{same}
 use Rattle.job_model.proofs.Lasting.{attached_lasts}
 use Rattle.job_model.proofs.Short.{attached_within}
-use Rattle.job_words.specs.declared.job_word.JobWord.{JobWord}
-use Rattle.job_words.specs.declared.link_word.LinkWord.{LinkWord}
-use Rattle.job_words.specs.declared.size.ForestSize.{ForestSize}
-use Rattle.job_words.specs.declared.deed.Deed.{Deed}
-use Rattle.job_words.specs.declared.deed.Deed.TheVariants.{Act, Claim, StoreLink, StoreJob}
-use Rattle.job_words.specs.Rows.{bit, job_code, link_code, row_code, word_of, link_word_of, link_at, without_hint, IsNarrowLink}
-use Rattle.job_words.specs.Deeds.{shape_of, IsSize, history_of, Store, after_deed, store_of, DeedNeeds, DoneFrom, IsDone, IsSmall, IsSmallRow, job_word, MayBeLink, Fits}
+use Rattle.word_rules.specs.declared.job_word.JobWord.{JobWord}
+use Rattle.word_rules.specs.declared.link_word.LinkWord.{LinkWord}
+use Rattle.word_rules.specs.declared.size.ForestSize.{ForestSize}
+use Rattle.word_rules.specs.declared.deed.Deed.{Deed}
+use Rattle.word_rules.specs.declared.deed.Deed.TheVariants.{Act, Claim, StoreLink, StoreJob}
+use Rattle.word_rules.specs.Rows.{bit, job_code, link_code, row_code, word_of, link_word_of, link_at, without_hint, IsNarrowLink}
+use Rattle.word_rules.specs.Deeds.{shape_of, IsSize, history_of, Store, after_deed, store_of, DeedNeeds, DoneFrom, IsDone, IsSmall, IsSmallRow, job_word, MayBeLink, Fits}
 use Rattle.job_words.specs.Passes.{Seen, Sees, Goes, Does, IsMine, ExchangeAnswer}
 use Rattle.job_words.specs.Attaches.{ClaimAnswer, IsAttached, IsWord}
 use Rattle.job_words.proofs.OneCodeOneWord.{link_code_is}

@@ -10,9 +10,9 @@ use Rattle.worded.proofs.TagsHeld.{has_tag-or}
 use Rattle.job_model.specs.Histories.{acts_of}
 use Rattle.job_model.specs.Floors.{is_claimed_by}
 use Rattle.job_model.specs.Trees.{is_among}
-use Rattle.job_words.specs.declared.size.ForestSize.{ForestSize}
-use Rattle.job_words.specs.declared.deed.Deed.{Deed}
-use Rattle.job_words.specs.Deeds.{shape_of, doer, history_of, rows_claimed, first_claim, nothing_done, store_of, IsDone, Fits}
+use Rattle.word_rules.specs.declared.size.ForestSize.{ForestSize}
+use Rattle.word_rules.specs.declared.deed.Deed.{Deed}
+use Rattle.word_rules.specs.Deeds.{shape_of, doer, history_of, rows_claimed, first_claim, nothing_done, store_of, IsDone, Fits}
 use Rattle.job_words.specs.Passes.{Seen, floor_of, floor_seen}
 use Rattle.job_words.specs.Meetings.{HasSeen, SameOf, NothingOf, NothingSeenOf, MeetAnswer, EndAnswer}
 use Rattle.job_words.proofs.DeedsAddUp.{store_more, IsDone-rest, history-append, acts_of-deeds, no_deeds, claims_kept, claims_mine}

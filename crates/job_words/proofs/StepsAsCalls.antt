@@ -11,10 +11,10 @@ use Rattle.job_model.proofs.Histories.{acts_of-append}
 use Rattle.worded.specs.Views.{has_tag}
 use Rattle.worded.specs.Histories.{entries_of}
 use Rattle.worded.proofs.TagsAndPrefixes.{entries_of-append}
-use Rattle.job_words.specs.declared.size.ForestSize.{ForestSize}
-use Rattle.job_words.specs.declared.deed.Deed.{Deed}
-use Rattle.job_words.specs.declared.deed.Deed.TheVariants.{Act, Claim, StoreLink, StoreJob}
-use Rattle.job_words.specs.Deeds.{shape_of, doer, history_of, rows_claimed, nothing_done, store_of, IsDone}
+use Rattle.word_rules.specs.declared.size.ForestSize.{ForestSize}
+use Rattle.word_rules.specs.declared.deed.Deed.{Deed}
+use Rattle.word_rules.specs.declared.deed.Deed.TheVariants.{Act, Claim, StoreLink, StoreJob}
+use Rattle.word_rules.specs.Deeds.{shape_of, doer, history_of, rows_claimed, nothing_done, store_of, IsDone}
 use Rattle.job_words.specs.Passes.{Seen, floor_of, floor_seen, Sees, Goes, Does}
 use Rattle.job_words.proofs.DeedsAddUp.{store_more, IsDone-rest, history-append, claimed-append, no_acts, no_deeds, claims_kept, claims_fresh, claims_mine, attacher_claimed, claims_within}
 

@@ -5,18 +5,33 @@ use Rattle.std.proofs.Common.{sym, ap, ◌∙◌, subst}
 use Rattle.job_model.specs.Trees.{IsShape}
 use Rattle.job_model.specs.Histories.{Legal}
 use Rattle.job_model.specs.Floors.{HasClaims}
-use Rattle.worded.specs.Views.{has_tag}
+use Rattle.either.specs.declared.Either.{Either}
+use Rattle.channel_model.specs.declared.acts.Entry.{Entry}
+use Rattle.atomic_table.specs.declared.shared.Seat.{Seat}
+use Rattle.worded.specs.declared.view.View.{View}
+use Rattle.worded.specs.Views.{IsIdleSeatOf, SameSeat, has_tag, is_bare, having_seen}
 use Rattle.worded.specs.Exchanges.{Loaded, Entered, Exchanged}
 use Rattle.worded.proofs.StepsOfSeats as steps
-use Rattle.job_words.specs.declared.size.ForestSize.{ForestSize}
-use Rattle.job_words.specs.declared.deed.Deed.{Deed}
+use Rattle.worded.proofs.TagsNotGiven.{by_exchange}
+use Rattle.joined_words.specs.Parts.{tags_in}
+use Rattle.word_rules.specs.declared.layout.Layout.{Layout}
+use Rattle.word_rules.specs.declared.size.ForestSize.{ForestSize}
+use Rattle.word_rules.specs.declared.deed.Deed.{Deed}
 use Rattle.job_words.specs.declared.forest.Forest.{Forest}
-use Rattle.job_words.specs.Deeds.{shape_of, doer, history_of, IsDone, Fits}
+use Rattle.word_rules.specs.Deeds.{shape_of, doer, history_of, IsDone, Fits}
 use Rattle.job_words.specs.Passes.{Seen, floor_of, Sees, Does}
+use Rattle.job_words.specs.JobParts.{jobs_in}
 use Rattle.job_words.specs.Meetings.{NothingSeenOf, NothingUngiven}
 use Rattle.job_words.proofs.DeedsAddUp.{is_legal}
 use Rattle.job_words.proofs.StepsAsCalls.{has_claims}
 use Rattle.job_words.proofs.StoreStaysSound.{size_shape}
+
+-- what a seat of the table knows
+abbrev pub TableSeen : Type 0
+TableSeen = View (Either Entry Deed) (Layout × ForestSize)
+
+abbrev pub TableSeat : Type 0
+TableSeat = Seat (Either Entry Deed) TableSeen
 
 done_seen : (size : ForestSize) (v w : Seen) (log : List Deed) → v.key ≡ size → w.seen ≡ log → IsDone (shape_of size) log
     → IsDone (shape_of v.key) w.seen
@@ -63,6 +78,12 @@ told_of size who word old n d v w key idle own e = by_test (n == old) e
     by_test true m = does_of size who word old d v w key idle own m
     by_test false l = sees_of size who word n v w key idle own l
 
+-- the pass has the same tags after an exchange
+pub tags_told : (size : ForestSize) (word old n : ℕ) (d : Deed) (v w : Seen) → v.heard_tags ≡ []
+    → Exchanged (IsDone (shape_of size)) (Fits size) doer word old n (some d) v w → w.tags ≡ v.tags
+tags_told size word old n d v w idle told = by_exchange (IsDone (shape_of size)) (Fits size) doer word old n d v w (w.tags ≡ v.tags)
+    (λ m. (steps.turns_of idle m).made.tags) (λ l. (steps.sees_of idle l).tags) told
+
 -- ---- the laws of a pass
 
 -- the law of its history
@@ -90,5 +111,33 @@ pass_laws size w s key done ungiven = record {
     shaped = subst (λ (k : ForestSize). IsShape (shape_of k)) (sym key) s
 
 -- by those of its seat
-pub laws_of : (f : Forest) (w : Seen) → steps.HasLaws done_at NothingSeenOf f.table.shared.key w → PassLaws w
-laws_of f w l = pass_laws f.size w (size_shape f.size f.small) (l.key ∙ f.sized.1) l.legal_seen l.ungiven
+pub laws_of : (f : Forest) (w : Seen) → steps.HasLaws done_at NothingSeenOf f.table.shared.key.1 w → PassLaws w
+laws_of f w l = pass_laws f.size w (size_shape f.size f.small) (l.key ∙ f.placed.same) l.legal_seen l.ungiven
+
+-- ---- a pass stays one of its forest
+
+-- a seat of the forest's table, which was told nothing that it has not seen
+abbrev pub IsSeatAt : Forest → TableSeat → Type 0
+IsSeatAt f s = IsIdleSeatOf f.table.shared.table_id f.table.shared.key s × ((jobs_in s.me.0).key ≡ f.size)
+    × ((jobs_in s.me.0).heard_tags ≡ [])
+
+-- a step that goes on with the whole table
+pub stays_at : (f : Forest) (s t : TableSeat) → IsSeatAt f s → SameSeat s t → t.me.0.key ≡ s.me.0.key → t.me.0.heard_tags ≡ []
+    → IsSeatAt f t
+stays_at f s t is same key idle = (
+  (same.0 ∙ is.0.0, key ∙ is.0.1, idle, ap is_bare same.2 ∙ is.0.3),
+  ap (λ (k : Layout × ForestSize). k.1) key ∙ is.1,
+  ap (tags_in 1) idle,
+)
+
+-- as a load leaves it
+pub seen_at : (f : Forest) (s t : TableSeat) (log : List (Either Entry Deed)) → IsSeatAt f s → SameSeat s t
+    → t.me.0 ≡ having_seen s.me.0 log → IsSeatAt f t
+seen_at f s t log is same now = stays_at f s t is same (ap (λ (x : TableSeen). x.key) now) (ap (λ (x : TableSeen). x.heard_tags) now)
+
+-- and an exchange
+pub exchanged_at : (f : Forest) (s t : TableSeat) (legal : List (Either Entry Deed) → Type 0)
+    (fits : List (Either Entry Deed) → ℕ → ℕ → Type 0) (who : Either Entry Deed → ℕ) (word old n : ℕ) (e : Either Entry Deed)
+    → IsSeatAt f s → SameSeat s t → Exchanged legal fits who word old n (some e) s.me.0 t.me.0 → IsSeatAt f t
+exchanged_at f s t legal fits who word old n e is same told = by_exchange legal fits who word old n e s.me.0 t.me.0 (IsSeatAt f t)
+    (λ m. seen_at f s t _ is same m.now) (λ l. seen_at f s t _ is same l.now) told

@@ -16,12 +16,12 @@ use Rattle.job_model.proofs.Families.{after_families, start_families, start_root
 use Rattle.job_model.proofs.Lasting.{act_keeps, attached_lasts}
 use Rattle.job_model.proofs.Claims.{attached_was}
 use Rattle.worded.specs.Histories.{entries_of}
-use Rattle.job_words.specs.declared.link_word.LinkWord.{LinkWord}
-use Rattle.job_words.specs.declared.size.ForestSize.{ForestSize}
-use Rattle.job_words.specs.declared.deed.Deed.{Deed}
-use Rattle.job_words.specs.declared.deed.Deed.TheVariants.{Act, Claim, StoreLink, StoreJob}
-use Rattle.job_words.specs.Rows.{row_code, link_code, link_word_of, new_link, link_at}
-use Rattle.job_words.specs.Deeds.{shape_of, IsSize, doer, Store, put, nothing_done, after_deed, store_from, store_of, IsStored, IsRanged, DeedNeeds, DoneFrom, IsDone, StoreHolds, IsKept}
+use Rattle.word_rules.specs.declared.link_word.LinkWord.{LinkWord}
+use Rattle.word_rules.specs.declared.size.ForestSize.{ForestSize}
+use Rattle.word_rules.specs.declared.deed.Deed.{Deed}
+use Rattle.word_rules.specs.declared.deed.Deed.TheVariants.{Act, Claim, StoreLink, StoreJob}
+use Rattle.word_rules.specs.Rows.{row_code, link_code, link_word_of, new_link, link_at}
+use Rattle.word_rules.specs.Deeds.{shape_of, IsSize, doer, Store, put, nothing_done, after_deed, store_from, store_of, IsStored, IsRanged, DeedNeeds, DoneFrom, IsDone, StoreHolds, IsKept}
 use Rattle.job_words.specs.Passes.{IsMine}
 use Rattle.job_words.proofs.DeedsAddUp.{apart_first, stored_claimer}
 use Rattle.job_words.proofs.NumbersStaySmall.{act_small, start_small}

@@ -5,8 +5,8 @@ use Rattle.job_model.specs.declared.acts.Reason.{Reason}
 use Rattle.job_model.specs.Trees.{Shape, Tree}
 use Rattle.job_model.specs.Needs.{MayEndBody, MayTell, Holds}
 use Rattle.job_model.specs.Histories.{replay}
-use Rattle.job_words.specs.declared.deed.Deed.{Deed}
-use Rattle.job_words.specs.Deeds.{history_of, store_of}
+use Rattle.word_rules.specs.declared.deed.Deed.{Deed}
+use Rattle.word_rules.specs.Deeds.{history_of, store_of}
 use Rattle.job_words.proofs.DeedsAddUp.{tree_is}
 
 pub attached_seen : (log : List Deed) (r : ℕ) → is_some (replay (history_of log) r) ≡ true → is_some ((store_of log).tree r) ≡ true

@@ -15,13 +15,13 @@ use Rattle.job_model.specs.Histories.{replay}
 use Rattle.job_model.specs.Laws.{IsSoundRow, HasFamilies, is_running}
 use Rattle.job_model.proofs.Rows.{same}
 use Rattle.job_model.specs.declared.floor.Ended.{Ended}
-use Rattle.job_words.specs.declared.job_word.JobWord.{JobWord}
-use Rattle.job_words.specs.declared.link_word.LinkWord.{LinkWord}
-use Rattle.job_words.specs.declared.size.ForestSize.{ForestSize}
-use Rattle.job_words.specs.declared.deed.Deed.{Deed}
-use Rattle.job_words.specs.declared.deed.Deed.TheVariants.{Act}
-use Rattle.job_words.specs.Rows.{job_code, word_of, link_word_of, link_at, row_code, end_from, IsNarrow}
-use Rattle.job_words.specs.Deeds.{shape_of, IsSize, history_of, Store, store_from, store_of, job_word, IsDone}
+use Rattle.word_rules.specs.declared.job_word.JobWord.{JobWord}
+use Rattle.word_rules.specs.declared.link_word.LinkWord.{LinkWord}
+use Rattle.word_rules.specs.declared.size.ForestSize.{ForestSize}
+use Rattle.word_rules.specs.declared.deed.Deed.{Deed}
+use Rattle.word_rules.specs.declared.deed.Deed.TheVariants.{Act}
+use Rattle.word_rules.specs.Rows.{job_code, word_of, link_word_of, link_at, row_code, end_from, IsNarrow}
+use Rattle.word_rules.specs.Deeds.{shape_of, IsSize, history_of, Store, store_from, store_of, job_word, IsDone}
 use Rattle.job_words.specs.Passes.{Seen, Sees, Goes, floor_seen}
 use Rattle.job_words.specs.Attaches.{IsAttached, IsWord, ActedNow, HasLost}
 use Rattle.job_model.specs.Effects.{change, change_parent, with_told}

@@ -3,10 +3,10 @@ use Rattle.std.specs.Prelude.{◌≡◌, ◌≢◌, ℕ, ◌+◌, ◌<◌, true,
 use Rattle.std.proofs.Common.{⊎_elim, inl, inr, sym, ap, ◌∙◌, subst}
 use Rattle.job_model.specs.Trees.{Job, Tree}
 use Rattle.job_model.specs.Families.{older_sibling}
-use Rattle.job_words.specs.declared.size.ForestSize.{ForestSize}
-use Rattle.job_words.specs.declared.deed.Deed.{Deed}
-use Rattle.job_words.specs.Rows.{link_word_of}
-use Rattle.job_words.specs.Deeds.{shape_of, IsSize, history_of, Store, store_of, job_word, IsDone, IsKept, MayBeLink, Fits}
+use Rattle.word_rules.specs.declared.size.ForestSize.{ForestSize}
+use Rattle.word_rules.specs.declared.deed.Deed.{Deed}
+use Rattle.word_rules.specs.Rows.{link_word_of}
+use Rattle.word_rules.specs.Deeds.{shape_of, IsSize, history_of, Store, store_of, job_word, IsDone, IsKept, MayBeLink, Fits}
 use Rattle.job_words.specs.JobWords.{IsJobWord, IsLinkWord, AreJobWordsOf}
 use Rattle.job_words.proofs.DeedsAddUp.{tree_is}
 use Rattle.job_words.proofs.StoreStaysSound.{kept}

@@ -12,7 +12,7 @@ use Rattle.job_model.specs.Families.{newest, children_of, older_sibling}
 use Rattle.job_model.specs.Laws.{HasFamilies}
 use Rattle.job_model.proofs.Rows.{same}
 use Rattle.job_model.proofs.Families.{changed_here, apart_rows}
-use Rattle.job_words.specs.Rows.{row_code, rest_of, word_of, link_word_of, link_at, new_word, new_link, with_newest}
+use Rattle.word_rules.specs.Rows.{row_code, rest_of, word_of, link_word_of, link_at, new_word, new_link, with_newest}
 use Rattle.job_model.proofs.Siblings.{KeepsFamily, changed_at, sibling_kept, attached_tree, attached_at, new_sibling, sibling_stays, not_told, newest-push, kept_last}
 
 -- ---- one row changes

@@ -6,11 +6,11 @@ use Rattle.job_model.specs.declared.acts.Cause.{Cause}
 use Rattle.job_model.specs.declared.acts.Reason.{Reason}
 use Rattle.job_model.specs.Effects.{cause_of_reason}
 use Rattle.job_model.specs.Needs.{Holds}
-use Rattle.job_words.specs.declared.size.ForestSize.{ForestSize}
-use Rattle.job_words.specs.declared.job_word.JobWord.{JobWord}
-use Rattle.job_words.specs.declared.deed.Deed.TheVariants.{Act}
-use Rattle.job_words.specs.Rows.{job_code}
-use Rattle.job_words.specs.Deeds.{shape_of, doer, store_of, job_word, IsDone, Fits}
+use Rattle.word_rules.specs.declared.size.ForestSize.{ForestSize}
+use Rattle.word_rules.specs.declared.job_word.JobWord.{JobWord}
+use Rattle.word_rules.specs.declared.deed.Deed.TheVariants.{Act}
+use Rattle.word_rules.specs.Rows.{job_code}
+use Rattle.word_rules.specs.Deeds.{shape_of, doer, store_of, job_word, IsDone, Fits}
 use Rattle.job_words.specs.Passes.{Seen, Sees, Does}
 
 -- whatever others do, this act of who is legal while the row's Job word is old, and turns it into new

@@ -7,13 +7,13 @@ use Rattle.job_model.specs.declared.floor.AttachError.{AttachError}
 use Rattle.job_model.specs.declared.floor.AttachError.TheVariants.{NoRow, Used, ParentEnded}
 use Rattle.job_model.specs.Needs.{IsRowFor}
 use Rattle.job_model.specs.Families.{IsEnded}
-use Rattle.job_words.specs.declared.job_word.JobWord.{JobWord}
-use Rattle.job_words.specs.declared.size.ForestSize.{ForestSize}
-use Rattle.job_words.specs.declared.deed.Deed.TheVariants.{Act}
+use Rattle.word_rules.specs.declared.job_word.JobWord.{JobWord}
+use Rattle.word_rules.specs.declared.size.ForestSize.{ForestSize}
+use Rattle.word_rules.specs.declared.deed.Deed.TheVariants.{Act}
 use Rattle.job_words.specs.declared.tried.Tried.{Tried}
 use Rattle.job_words.specs.declared.tried.Tried.TheVariants.{Attached, Ended, Lost}
-use Rattle.job_words.specs.Rows.{job_code, IsNarrow}
-use Rattle.job_words.specs.Deeds.{shape_of, history_of, store_of, job_word, AreClaimedBelow}
+use Rattle.word_rules.specs.Rows.{job_code, IsNarrow}
+use Rattle.word_rules.specs.Deeds.{shape_of, history_of, store_of, job_word, AreClaimedBelow}
 use Rattle.job_words.specs.Passes.{Seen, Goes, Does, IsMine}
 
 -- the row was seen claimed

@@ -12,11 +12,11 @@ use Rattle.job_model.specs.declared.floor.CancelledNow.{CancelledNow}
 use Rattle.job_model.specs.declared.floor.CancelledNow.TheVariants as cancelled
 use Rattle.job_model.specs.Trees.{is_new, is_cancellable, is_ended}
 use Rattle.job_model.specs.Effects.{state_of_end}
-use Rattle.job_words.specs.declared.size.ForestSize.{ForestSize}
-use Rattle.job_words.specs.declared.job_word.JobWord.{JobWord}
+use Rattle.word_rules.specs.declared.size.ForestSize.{ForestSize}
+use Rattle.word_rules.specs.declared.job_word.JobWord.{JobWord}
 use Rattle.job_words.specs.declared.decision.Decision.{Decision}
 use Rattle.job_words.specs.declared.decision.Decision.TheVariants.{Keep, Change}
-use Rattle.job_words.specs.Rows.{IsNarrow, word_without_body, end_from}
+use Rattle.word_rules.specs.Rows.{IsNarrow, word_without_body, end_from}
 use Rattle.job_words.specs.Passes.{Seen, Goes}
 use Rattle.job_words.specs.Attaches.{IsWord, ActedNow}
 use Rattle.job_words.specs.Acts.{MayAct}

@@ -1,26 +1,30 @@
 -- A forest and a pass.
-use Rattle.std.specs.Prelude.{ℕ, List}
-use Rattle.worded.specs.Views.{IsIdleSeatOf, IsOwnSeatOf, HasGiven, GivesAsBefore}
+use Rattle.std.specs.Prelude.{◌≡◌, ℕ, true, List, []}
+use Rattle.worded.specs.Views.{IsIdleSeatOf, HasGiven, GivesAsBefore, has_tag}
 use Rattle.job_words.specs.declared.forest.Forest.{Forest}
 use Rattle.job_words.specs.declared.pass.JobPass.{JobPass}
 use Rattle.job_words.specs.Passes.{Seen}
+use Rattle.job_words.specs.JobParts.{jobs_in}
 
--- what the pass knows
+-- what the pass knows of the Jobs
 abbrev pub seen_by : JobPass → Seen
-seen_by pass = pass.seat.me.0
+seen_by pass = jobs_in pass.seat.me.0
 
--- the pass is one of the forest
+-- the pass is one of the forest, and was told nothing that it has not seen
 abbrev pub IsOf : Forest → JobPass → Type 0
-IsOf forest pass = IsIdleSeatOf forest.table.shared.table_id forest.size pass.seat
+IsOf forest pass =
+    IsIdleSeatOf forest.table.shared.table_id forest.table.shared.key pass.seat
+    × ((seen_by pass).key ≡ forest.size)
+    × ((seen_by pass).heard_tags ≡ [])
 
 -- and who is one of its callers
 abbrev pub IsOwn : Forest → JobPass → ℕ → Type 0
-IsOwn forest pass who = IsOwnSeatOf forest.table.shared.table_id forest.size pass.seat who
+IsOwn forest pass who = IsOf forest pass × (has_tag who (seen_by pass).tags ≡ true)
 
 -- the pass gives out tags, and has given out these
 abbrev pub GivesTags : List ℕ → JobPass → Type 0
-GivesTags given pass = HasGiven given pass.seat.me.0
+GivesTags given pass = HasGiven given (seen_by pass)
 
 -- it gives out tags as before
 abbrev pub SameGiving : JobPass → JobPass → Type 0
-SameGiving old new = GivesAsBefore old.seat.me.0 new.seat.me.0
+SameGiving old new = GivesAsBefore (seen_by old) (seen_by new)

@@ -4,7 +4,7 @@ use Rattle.job_model.specs.declared.acts.JobEntry.{JobEntry}
 use Rattle.job_model.specs.Trees.{Job}
 use Rattle.job_model.specs.Families.{older_sibling}
 use Rattle.job_model.specs.Histories.{replay}
-use Rattle.job_words.specs.Rows.{job_code, link_code, word_of, link_word_of}
+use Rattle.word_rules.specs.Rows.{job_code, link_code, word_of, link_word_of}
 
 -- a row that is not attached has the Job word 0 exactly if nobody claimed it; one that is has that of its Job
 abbrev pub IsJobWord : Option ℕ → Option Job → ℕ → Type 0

@@ -1,7 +1,6 @@
-pub mod Rows
-pub mod Deeds
 pub mod Once
 pub mod Passes
+pub mod JobParts
 pub mod Attaches
 pub mod Acts
 pub mod Decisions

@@ -6,9 +6,9 @@ use Rattle.job_model.specs.declared.acts.Cause.TheVariants as because
 use Rattle.job_model.specs.declared.floor.JobView.{JobView}
 use Rattle.job_model.specs.Trees.{is_among, is_cancelled, kind_of}
 use Rattle.job_model.specs.Families.{children_of}
-use Rattle.job_words.specs.declared.job_word.JobWord.{JobWord}
-use Rattle.job_words.specs.Rows.{cause_from}
-use Rattle.job_words.specs.Deeds.{store_of, is_valued}
+use Rattle.word_rules.specs.declared.job_word.JobWord.{JobWord}
+use Rattle.word_rules.specs.Rows.{cause_from}
+use Rattle.word_rules.specs.Deeds.{store_of, is_valued}
 use Rattle.job_words.specs.Passes.{Seen, Goes}
 use Rattle.job_words.specs.Attaches.{IsAttached}
 

@@ -9,9 +9,9 @@ use Rattle.job_model.specs.Trees.{Shape, Tree}
 use Rattle.job_model.specs.Needs.{Needs}
 use Rattle.job_model.specs.Histories.{Legal, LegalFrom}
 use Rattle.job_model.proofs.Once.{Legal-prop, LegalFrom-prop}
-use Rattle.job_words.specs.declared.deed.Deed.{Deed}
-use Rattle.job_words.specs.declared.deed.Deed.TheVariants.{Act, Claim, StoreLink, StoreJob}
-use Rattle.job_words.specs.Deeds.{shape_of, history_of, Store, after_deed, nothing_done, IsStored, IsRanged, DeedNeeds, DoneFrom, IsDone}
+use Rattle.word_rules.specs.declared.deed.Deed.{Deed}
+use Rattle.word_rules.specs.declared.deed.Deed.TheVariants.{Act, Claim, StoreLink, StoreJob}
+use Rattle.word_rules.specs.Deeds.{shape_of, history_of, Store, after_deed, nothing_done, IsStored, IsRanged, DeedNeeds, DoneFrom, IsDone}
 use Rattle.job_words.specs.Passes.{Seen}
 
 Needs-prop : (shape : Shape) (tree : Tree) (e : JobEntry) → IsProp (Needs shape tree e.who e.act)
@@ -51,9 +51,17 @@ DoneFrom-prop shape s (d ∷ ds) = ×_prop (DeedNeeds-prop shape s d) (DoneFrom-
 pub IsDone-prop : (shape : Shape) (ds : List Deed) → IsProp (IsDone shape ds)
 IsDone-prop shape ds = DoneFrom-prop shape nothing_done ds
 
+-- what a pass has seen might come when it came
+abbrev pub IsDoneSeen : Seen → Type 0
+IsDoneSeen v = IsDone (shape_of v.key) v.seen
+
+-- and the entries among it
+abbrev pub IsLegalSeen : Seen → Type 0
+IsLegalSeen v = Legal (shape_of v.key) (history_of v.seen)
+
 -- the same of legality, of what a pass has seen
-pub LegalSeen-prop : (v : Seen) → IsProp (Legal (shape_of v.key) (history_of v.seen))
+pub LegalSeen-prop : (v : Seen) → IsProp (IsLegalSeen v)
 LegalSeen-prop v = Legal-prop (shape_of v.key) (history_of v.seen)
 
-pub DoneSeen-prop : (v : Seen) → IsProp (IsDone (shape_of v.key) v.seen)
+pub DoneSeen-prop : (v : Seen) → IsProp (IsDoneSeen v)
 DoneSeen-prop v = IsDone-prop (shape_of v.key) v.seen

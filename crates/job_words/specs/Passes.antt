@@ -5,9 +5,9 @@ use Rattle.worded.specs.Views.{has_tag}
 use Rattle.worded.specs.Views as views
 use Rattle.worded.specs.Histories.{entries_of}
 use Rattle.worded.specs.declared.view.View.{View}
-use Rattle.job_words.specs.declared.size.ForestSize.{ForestSize}
-use Rattle.job_words.specs.declared.deed.Deed.{Deed}
-use Rattle.job_words.specs.Deeds.{shape_of, doer, history_of, rows_claimed, store_of, Store, IsDone, Fits}
+use Rattle.word_rules.specs.declared.size.ForestSize.{ForestSize}
+use Rattle.word_rules.specs.declared.deed.Deed.{Deed}
+use Rattle.word_rules.specs.Deeds.{shape_of, doer, history_of, rows_claimed, store_of, Store, IsDone, Fits}
 
 -- what a pass knows of its forest
 abbrev pub Seen : Type 0

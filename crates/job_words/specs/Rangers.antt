@@ -3,10 +3,11 @@ use Rattle.job_model.specs.Floors.{Floor}
 use Rattle.job_words.specs.declared.ranger.Ranger.{Ranger}
 use Rattle.job_words.specs.declared.ranger.RangerAnchor.{RangerAnchor}
 use Rattle.job_words.specs.Passes.{floor_seen}
+use Rattle.job_words.specs.Forests.{seen_by}
 
 -- what its callers have seen
 abbrev pub ranger_floor : Ranger → Floor
-ranger_floor r = floor_seen r.pass.now.seat.me.0
+ranger_floor r = floor_seen (seen_by r.pass.now)
 
 -- what its calls do not change
 abbrev pub ranger_anchor : Ranger → RangerAnchor
@@ -14,6 +15,6 @@ ranger_anchor r =
     record {
       forest = r.forest.now;
       name = r.pass.ghost_name;
-      chief = r.pass.now.seat.me.0.chief;
-      given = r.pass.now.seat.me.0.given;
+      chief = (seen_by r.pass.now).chief;
+      given = (seen_by r.pass.now).given;
     }

@@ -7,14 +7,14 @@ use Rattle.worded.specs.Histories.{AreSeatsOf}
 use Rattle.worded.specs.declared.view.View.{View}
 use Rattle.job_model.specs.declared.acts.JobEntry.{JobEntry}
 use Rattle.job_model.specs.Histories.{Legal, acts_of}
-use Rattle.job_words.specs.declared.size.ForestSize.{ForestSize}
-use Rattle.job_words.specs.declared.deed.Deed.{Deed}
-use Rattle.job_words.specs.Deeds.{shape_of, history_of, store_of, word_count}
+use Rattle.word_rules.specs.declared.size.ForestSize.{ForestSize}
+use Rattle.word_rules.specs.declared.deed.Deed.{Deed}
+use Rattle.word_rules.specs.Deeds.{shape_of, history_of, store_of, word_count}
 use Rattle.job_words.specs.JobWords.{AreJobWordsOf}
 
 -- The words are those of one legal history and of the claims; each pass has seen a beginning of it, and all entries of its own tags,
 -- and what it has seen claimed is claimed; no two passes have one tag, and a tag that no pass has made no entry
-pub record HoldsJobs (size : ForestSize) (s : State Deed (View Deed ForestSize)) : Type 0 where
+pub record HoldsJobs (size : ForestSize) {S : Type 0} (s : State S (View Deed ForestSize)) : Type 0 where
   pub entries : List JobEntry
   pub legal : Legal (shape_of size) entries
   pub claims : ℕ → Option ℕ

@@ -2,22 +2,21 @@
 ghost use Rattle.std.specs.Prelude.{◌≡◌, ◌≢◌, ◌<◌, true};
 ghost use Rattle.job_model.specs.Needs.{IsRowFor};
 ghost use Rattle.job_model.specs.Answers.{AttachAnswer};
-ghost use Rattle.job_words.specs.Rows.{new_word};
-ghost use Rattle.job_words.specs.Deeds.{shape_of, store_of};
+ghost use Rattle.word_rules.specs.Rows.{new_word};
+ghost use Rattle.word_rules.specs.Deeds.{shape_of, store_of};
 ghost use Rattle.job_words.specs.Passes.{IsMine, floor_seen};
 ghost use Rattle.job_words.specs.Attaches.{IsAttached, TriedAnswer, DisclosedAnswer};
 ghost use Rattle.job_words.specs.Forests.{seen_by, IsOwn, SameGiving};
 
 use crate::claiming::{claim_row, store_job, store_link};
 use crate::forest::Forest;
-use crate::job_word::JobWord;
-use crate::link_word::LinkWord;
 use crate::pass::JobPass;
 use crate::steps::lift_word;
 use crate::tried::Tried;
 use crate::words::{act_on, load_job};
 use co_base::{Row, Tag};
 use job_model::{AttachError, Attached, JobAct, JobKind, JobState};
+use word_rules::{JobWord, LinkWord};
 
 // Bit 47 of a link word.
 const DISCLOSED: u64 = 140737488355328;

@@ -2,8 +2,8 @@
 ghost use Rattle.std.specs.Prelude.{◌≡◌, []};
 ghost use Rattle.job_model.specs.Needs.{Holds};
 ghost use Rattle.job_model.specs.Answers.{CancelAnswer};
-ghost use Rattle.job_words.specs.Rows.{cause_code};
-ghost use Rattle.job_words.specs.Deeds.{shape_of, store_of};
+ghost use Rattle.word_rules.specs.Rows.{cause_code};
+ghost use Rattle.word_rules.specs.Deeds.{shape_of, store_of};
 ghost use Rattle.job_words.specs.Passes.{Goes, floor_seen};
 ghost use Rattle.job_words.specs.Attaches.{IsAttached};
 ghost use Rattle.job_words.specs.Acts.{IsCauseOf};
@@ -13,12 +13,12 @@ ghost use Rattle.job_words.specs.Forests.{seen_by, IsOwn, SameGiving};
 use crate::decision::Decision;
 use crate::finishing::cause_of_rest;
 use crate::forest::Forest;
-use crate::job_word::JobWord;
 use crate::pass::JobPass;
 use crate::updating::update;
 use crate::words::load_job;
 use co_base::{Row, Tag};
 use job_model::{CancelledNow, Cause, JobAct, JobState, Reason};
+use word_rules::JobWord;
 
 fn code_of_cause(cause: Cause) -> u32
     ensures { result ≡ cause_code cause }

@@ -1,16 +1,16 @@
 //! A row is claimed, and its claimer stores its two words.
 ghost use Rattle.std.specs.Prelude.{◌≡◌, ℕ, ◌<◌, ◌≤◌, true, []};
-ghost use Rattle.job_words.specs.Deeds.{store_of, AreClaimedBelow, IsLinkTo};
+ghost use Rattle.word_rules.specs.Deeds.{store_of, AreClaimedBelow, IsLinkTo};
 ghost use Rattle.job_words.specs.Passes.{Goes, Sees, IsMine};
 ghost use Rattle.job_words.specs.Attaches.{ClaimAnswer, ScopeAnswer, RowAnswer};
 ghost use Rattle.job_words.specs.Forests.{seen_by, IsOwn};
 
-use crate::deed::Deed;
 use crate::forest::Forest;
 use crate::pass::JobPass;
 use crate::steps::{exchange_word, lift_word, load_word};
 use co_base::{Row, Tag};
 use job_model::{AttachError, JobKind};
+use word_rules::Deed;
 
 // The link word of the root.
 const SCOPES_FROM: usize = 1;

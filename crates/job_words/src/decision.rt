@@ -1,7 +1,7 @@
 //! What is decided on a Job word.
 
-use crate::job_word::JobWord;
 use job_model::JobAct;
+use word_rules::JobWord;
 
 /// What is decided on a Job word.
 #[derive(Clone, Copy)]

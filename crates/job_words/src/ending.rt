@@ -2,19 +2,19 @@
 ghost use Rattle.std.specs.Prelude.{◌≡◌};
 ghost use Rattle.job_model.specs.Needs.{MayEndBody};
 ghost use Rattle.job_model.specs.Answers.{EndBodyAnswer};
-ghost use Rattle.job_words.specs.Rows.{word_without_body};
-ghost use Rattle.job_words.specs.Deeds.{store_of};
+ghost use Rattle.word_rules.specs.Rows.{word_without_body};
+ghost use Rattle.word_rules.specs.Deeds.{store_of};
 ghost use Rattle.job_words.specs.Passes.{floor_seen};
 ghost use Rattle.job_words.specs.Decisions.{owed_if, end_decision};
 ghost use Rattle.job_words.specs.Forests.{seen_by, IsOwn, SameGiving};
 
 use crate::decision::Decision;
 use crate::forest::Forest;
-use crate::job_word::JobWord;
 use crate::pass::JobPass;
 use crate::updating::update;
 use co_base::{Row, Tag, Value};
 use job_model::{Ended, JobAct, JobState};
+use word_rules::JobWord;
 
 /// The word after the body ended.
 fn without_body(word: JobWord, value: Value) -> JobWord

@@ -2,7 +2,7 @@
 ghost use Rattle.std.specs.Prelude.{◌≡◌};
 ghost use Rattle.job_model.specs.Effects.{state_of_end};
 ghost use Rattle.job_model.specs.Answers.{FinishAnswer};
-ghost use Rattle.job_words.specs.Rows.{cause_from, end_from};
+ghost use Rattle.word_rules.specs.Rows.{cause_from, end_from};
 ghost use Rattle.job_words.specs.Passes.{floor_seen};
 ghost use Rattle.job_words.specs.Attaches.{IsAttached};
 ghost use Rattle.job_words.specs.Decisions.{finish_decision};
@@ -10,11 +10,11 @@ ghost use Rattle.job_words.specs.Forests.{seen_by, IsOwn, SameGiving};
 
 use crate::decision::Decision;
 use crate::forest::Forest;
-use crate::job_word::JobWord;
 use crate::pass::JobPass;
 use crate::updating::update;
 use co_base::{Row, Tag};
 use job_model::{Cause, End, Finished, JobAct, JobState};
+use word_rules::JobWord;
 
 /// The cause that the word of a cancelled Job has.
 pub(crate) fn cause_of_rest(rest: u32) -> Cause

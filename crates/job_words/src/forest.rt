@@ -1,38 +1,20 @@
-//! The table of a forest, and what its history means.
-ghost use Rattle.std.specs.Prelude.{◌≡◌};
+//! The table of a forest.
 ghost use Rattle.std.proofs.Props.{props};
-ghost use Rattle.job_words.specs.Deeds.{IsSize, word_count};
+ghost use Rattle.word_rules.specs.Deeds.{IsSize};
+ghost use Rattle.job_words.specs.JobParts.{IsPlaced};
 
-use crate::deed::Deed;
-use crate::size::ForestSize;
-use std::alloc::Global;
-use worded::{HistoryRule, HistoryTable};
+use word_rules::{ForestSize, RunTable};
 
-/// The history of a forest is a list of deeds, of which the words are a function except for hints.
-pub struct JobHistory;
-
-impl HistoryRule<Deed, ForestSize> for JobHistory {
-    ghost use Rattle.job_words.specs.Deeds.{shape_of, IsDone, Fits, doer, word_count, no_size};
-
-    ghost legal = { λ size. IsDone (shape_of size) };
-
-    ghost fits = { Fits };
-
-    ghost who = { doer };
-
-    ghost size = { word_count };
-
-    ghost blank = { no_size };
-}
-
-/// The words of a forest.
-pub type ForestTable = HistoryTable<Deed, ForestSize, JobHistory, Global>;
+/// The words that a forest stands on, behind those of channels.
+pub type ForestTable = RunTable;
 
 /// A tree of Jobs over words, which many threads change at once, each with a pass of its own.
 #[derive(Drop)]
 pub struct Forest {
     pub(crate) table: ForestTable,
     pub(crate) size: ForestSize,
-    pub ghost sized: { (table.shared.table_id.words ≡ word_count size) × (table.shared.key ≡ size) },
+    /// Which word of the table is the Job word of the root.
+    pub(crate) first: usize,
+    pub ghost placed: { IsPlaced table.shared.table_id.words table.shared.key size first } by { Prim.hlevel props },
     pub ghost small: { IsSize size } by { Prim.hlevel props },
 }

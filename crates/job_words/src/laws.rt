@@ -1,13 +1,18 @@
 //! What the words say.
 ghost use Rattle.std.specs.Prelude.{◌≡◌, ℕ, List};
-ghost use Rattle.job_words.specs.declared.size.ForestSize.{ForestSize as Size};
-ghost use Rattle.job_words.specs.declared.deed.Deed.{Deed as ADeed};
-ghost use Rattle.job_words.specs.declared.job_word.JobWord.{JobWord as AJobWord};
-ghost use Rattle.job_words.specs.declared.link_word.LinkWord.{LinkWord as ALinkWord};
-ghost use Rattle.job_words.specs.Rows.{job_code, link_code, IsNarrow, IsNarrowLink};
-ghost use Rattle.job_words.specs.Deeds.{shape_of, IsSize, IsDone, Fits, doer, history_of, store_of, word_count};
+ghost use Rattle.word_rules.specs.declared.size.ForestSize.{ForestSize as Size};
+ghost use Rattle.word_rules.specs.declared.deed.Deed.{Deed as ADeed};
+ghost use Rattle.word_rules.specs.declared.job_word.JobWord.{JobWord as AJobWord};
+ghost use Rattle.word_rules.specs.declared.link_word.LinkWord.{LinkWord as ALinkWord};
+ghost use Rattle.word_rules.specs.Rows.{job_code, link_code, IsNarrow, IsNarrowLink};
+ghost use Rattle.word_rules.specs.Deeds.{shape_of, IsSize, IsDone, Fits, doer, history_of, store_of, word_count};
 ghost use Rattle.job_words.specs.JobWords.{AreJobWordsOf};
+ghost use Rattle.job_words.specs.JobParts.{job_part, HasBoth};
 ghost use Rattle.job_words.specs.Tables.{HoldsJobs};
+ghost use Rattle.joined_words.specs.Tables.{state_in};
+ghost use Rattle.either.specs.declared.Either.{Either as AnEither};
+ghost use Rattle.channel_model.specs.declared.acts.Entry.{Entry as AnEntry};
+ghost use Rattle.word_rules.specs.declared.layout.Layout.{Layout as ALayout};
 ghost use Rattle.atomic_table.specs.Table.{State};
 ghost use Rattle.worded.specs.Histories.{HasOneHistory};
 ghost use Rattle.worded.specs.declared.view.View.{View};
@@ -27,8 +32,11 @@ pub fn words_follow_from_entries_and_claims()
 
 /// Between any two steps the words are those of one legal history and of the claims. Each pass has seen a beginning of it, and in that
 /// all entries of its own tags; what it has seen claimed is claimed. No two passes have one tag, and a tag that no pass has made no
-/// entry.
+/// entry. `part` says so of a forest's part of a table of both histories, which is a table of its own by
+/// `joined_words::a_part_has_one_history`.
 pub fn a_forest_has_one_history()
-    ensures { (size : Size) (s : State ADeed (View ADeed Size)) → IsSize size
+    ensures alone { (size : Size) (s : State ADeed (View ADeed Size)) → IsSize size
         → HasOneHistory (IsDone (shape_of size)) (Fits size) doer (word_count size) s → HoldsJobs size s }
+    ensures part { (key : ALayout × Size) (s : State (AnEither AnEntry ADeed) (View (AnEither AnEntry ADeed) (ALayout × Size)))
+        → IsSize key.1 → HasBoth key s → HoldsJobs key.1 (state_in job_part key (word_count key.1) s) }
 {}

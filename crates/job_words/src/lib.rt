@@ -1,7 +1,7 @@
 //! A tree of Jobs over a table of words, which many threads change at once. No call waits, takes a lock or takes memory.
 //!
 //! **The words.** A row has two: the Job word (state, body ended, newest child, number of living children, result or cause) and the
-//! link word (parent, next older child, tag, kind; `job_word` and `link_word` have the bits). A Job word 0 is a row that nobody has
+//! link word (parent, next older child, tag, kind; `word_rules` has the bits). A Job word 0 is a row that nobody has
 //! claimed, 7 one that was claimed and has no words yet. A row is attached when its parent's Job word says so, or that of a
 //! younger child: what stands in its own words before that is no Job yet.
 //!
@@ -31,12 +31,15 @@
 //! one looks from there on, and raises it after the row that it got, by a step that shows nothing. A row that was claimed stays so;
 //! so who finds none has seen all of them claimed, though it did not look at those below.
 //!
-//! **The history.** The entries of the model are among the *deeds* of the table: one deed for each exchange, an entry (`Act`), or a claim
+//! **The table** has the words of channels too (`word_rules`): a forest stands on its second part, behind those words, so that its deeds
+//! and the entries of the channels have one order, where both are on one table. `Forest::new` makes a table without channels.
+//!
+//! **The history.** The entries of the model are among the *deeds*: one deed for each exchange, an entry (`Act`), or a claim
 //! or a store, which the model does not know. All words are a function of the deeds, up to the hints. A `JobPass` has seen a beginning
 //! of the deeds, and all of its own.
 //!
-//! - `job_word`, `link_word`: the two words, field by field.
-//! - `deed`, `size`: what an exchange does; how large a forest is.
+//! - in `word_rules`, `job_word` and `link_word`: the two words, field by field; `deed` and `size`: what an exchange does, how large a
+//!   forest is.
 //! - `forest`, `pass`: the table, and what a thread steps with.
 //! - `meeting`: how a forest is made, and its passes are split, met and ended.
 //! - `steps`, `words`: the three steps on a word, and those on the two words of a row.
@@ -52,19 +55,15 @@ mod attaching;
 mod cancelling;
 mod claiming;
 mod decision;
-mod deed;
 mod ending;
 mod finishing;
 mod forest;
-mod job_word;
 mod laws;
-mod link_word;
 mod linking;
 mod looking;
 mod meeting;
 mod pass;
 mod ranger;
-mod size;
 mod starting;
 mod steps;
 mod telling;
@@ -72,13 +71,10 @@ mod tried;
 mod updating;
 mod words;
 
-pub use deed::Deed;
-pub use forest::{Forest, ForestTable, JobHistory};
-pub use job_word::JobWord;
+pub use forest::{Forest, ForestTable};
 pub use laws::{
     a_forest_has_one_history, two_words_have_two_numbers, words_follow_from_entries_and_claims,
 };
-pub use link_word::LinkWord;
 pub use pass::JobPass;
 pub use ranger::{Ranger, RangerAnchor};
-pub use size::ForestSize;
+pub use word_rules::{Deed, ForestSize, JobHistory, JobWord, LinkWord};

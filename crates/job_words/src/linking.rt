@@ -1,18 +1,18 @@
 //! Where a Job stands in the tree.
 ghost use Rattle.std.specs.Prelude.{◌≡◌, ◌≢◌, Some};
 ghost use Rattle.job_model.specs.Answers.{LinkAnswer};
-ghost use Rattle.job_words.specs.Rows.{link_at, without_hint};
-ghost use Rattle.job_words.specs.Deeds.{store_of};
+ghost use Rattle.word_rules.specs.Rows.{link_at, without_hint};
+ghost use Rattle.word_rules.specs.Deeds.{store_of};
 ghost use Rattle.job_words.specs.Passes.{Sees, floor_seen};
 ghost use Rattle.job_words.specs.Attaches.{IsAttached};
 ghost use Rattle.job_words.specs.Forests.{seen_by, IsOwn, SameGiving};
 
 use crate::forest::Forest;
-use crate::link_word::LinkWord;
 use crate::pass::JobPass;
 use crate::words::load_any_link;
 use co_base::{Row, Tag};
 use job_model::Link;
+use word_rules::LinkWord;
 
 /// The link word of an attached row, which never changes except for its hint.
 pub(crate) fn load_link(forest: &Forest, pass: &mut JobPass, who: Tag, row: Row) -> LinkWord

@@ -8,13 +8,13 @@ ghost use Rattle.job_words.specs.Forests.{seen_by, IsOwn, SameGiving};
 
 use crate::finishing::cause_of_rest;
 use crate::forest::Forest;
-use crate::job_word::JobWord;
 use crate::linking::load_link;
 use crate::pass::JobPass;
 use crate::steps::load_word;
 use crate::words::{load_any_link, load_job};
 use co_base::{Row, Tag};
 use job_model::{Cause, JobKind, JobState, JobView};
+use word_rules::JobWord;
 
 const ROOT_KIND: JobKind = JobKind {
     supervisor: false,

@@ -1,28 +1,68 @@
 //! How a forest is made, and its passes are split, met and ended.
 ghost use Rattle.std.specs.Prelude.{◌≡◌, ℕ, ◌+◌, ◌*◌, ◌==◌, ◌<◌, ◌≤◌, IfOk, length, slice_index, if◌then◌else◌, true, false, [], ◌∷◌};
 ghost use Rattle.job_model.specs.Floors.{IsFreshFloor};
-ghost use Rattle.worded.specs.Views.{has_tag};
+ghost use Rattle.worded.specs.Views.{IsIdleSeatOf, first_view, has_tag};
+ghost use Rattle.word_rules.specs.Deeds.{IsSize};
 ghost use Rattle.job_words.specs.Passes.{floor_seen};
+ghost use Rattle.job_words.specs.JobParts.{IsPlaced, jobs_in};
 ghost use Rattle.job_words.specs.Meetings.{NothingOf, MeetAnswer, EndAnswer};
 ghost use Rattle.job_words.specs.Forests.{seen_by, IsOf, IsOwn, GivesTags, SameGiving};
 
-use crate::deed::Deed;
-use crate::forest::{Forest, JobHistory};
+use crate::forest::{Forest, ForestTable};
 use crate::pass::JobPass;
-use crate::size::ForestSize;
+use channel_model::Entry;
 use co_base::{Memory, Tag};
+use joined_words::{QUIET_WORDS, SecondPart, end_in, meet_in, new_joint, split_in};
 use std::alloc::Global;
-use worded::{end, meet, new_history, split};
+use std::collections::LinkedList;
+use word_rules::{
+    CellHistory, Deed, ForestSize, JobHistory, Layout, RunEntry, RunHistory, RunKey, RunSeat,
+};
 
-/// The words of a forest that has the root alone.
+/// The first word of a forest whose table has no channels: such a hub has one word, which says nothing.
+const FIRST_ALONE: usize = QUIET_WORDS + 1;
+
+/// The words of a table without channels, and of a forest that has the root alone.
 fn first_words(alloc: Global, rows: u16) -> Result<Vec<u64>, Memory>
     requires { 0 < rows }
-    ensures count { IfOk result (λ v. length v.items ≡ 2 * rows) }
-    ensures words { IfOk result (λ v. (i : ℕ) → slice_index v.items i ≡ (if i == 0 then 2 else 0)) }
+    ensures count { IfOk result (λ v. length v.items ≡ 9 + 2 * rows) }
+    ensures words { IfOk result (λ v. (i : ℕ) → slice_index v.items i ≡ (if i == 9 then 2 else 0)) }
 {
-    let mut words = Vec::from_elem(alloc, 0u64, 2 * rows as usize)?;
-    words[0] = 2;
+    let mut words = Vec::from_elem(alloc, 0u64, FIRST_ALONE + 2 * rows as usize)?;
+    words[FIRST_ALONE] = 2;
     Ok(words)
+}
+
+/// The table of a forest that has the root alone, and its first seat, which has tag 0 of both parts: no seat of the channels is left.
+fn table_alone(alloc: Global, size: ForestSize) -> Result<(ForestTable, RunSeat), Memory>
+    requires { IsSize size }
+    ensures placed { IfOk result (λ t. IsPlaced t.0.shared.table_id.words t.0.shared.key size 9) }
+    ensures seat { IfOk result (λ t. IsIdleSeatOf t.0.shared.table_id t.0.shared.key t.1) }
+    ensures first { IfOk result (λ t. jobs_in t.1.me.0 ≡ first_view size) }
+{
+    let words = first_words(alloc, size.rows)?;
+    let kinds = LinkedList::new(alloc);
+    let key = (Layout { kinds }, size);
+    let (table, mut seat) = new_joint::<
+        Entry,
+        Layout,
+        CellHistory,
+        Deed,
+        ForestSize,
+        JobHistory,
+        Global,
+    >(alloc, words.as_slice(), &key)?;
+    let root = split_in::<RunEntry, RunKey, RunHistory, Deed, ForestSize, JobHistory, SecondPart>(
+        &table.shared,
+        &mut seat,
+        0,
+    );
+    end_in::<RunEntry, RunKey, RunHistory, Deed, ForestSize, JobHistory, SecondPart>(
+        &table.shared,
+        &mut seat,
+        root,
+    );
+    Ok((table, seat))
 }
 
 impl Forest {
@@ -41,13 +81,15 @@ impl Forest {
             coroutines,
             rows: coroutines + scopes,
         };
-        let words = first_words(alloc, size.rows)?;
-        let (table, seat) = new_history::<Deed, ForestSize, JobHistory, Global>(
-            alloc,
-            words.as_slice(),
-            &size,
-        )?;
-        Ok((Forest { table, size }, JobPass { seat }))
+        let (table, seat) = table_alone(alloc, size)?;
+        Ok((
+            Forest {
+                table,
+                size,
+                first: FIRST_ALONE,
+            },
+            JobPass { seat },
+        ))
     }
 
     /// How many rows it has.
@@ -68,11 +110,15 @@ impl Forest {
         ensures sees { floor_seen (seen_by result) ≡ record (floor_seen (seen_by pass.old)) { callers = λ t. has_tag t (tag ∷ []) } }
         ensures none { NothingOf tag (floor_seen (seen_by result)) }
     {
-        let seat = split::<Deed, ForestSize, JobHistory>(
-            &self.table.shared,
-            &mut pass.seat,
-            tag as u64,
-        );
+        let seat = split_in::<
+            RunEntry,
+            RunKey,
+            RunHistory,
+            Deed,
+            ForestSize,
+            JobHistory,
+            SecondPart,
+        >(&self.table.shared, &mut pass.seat, tag as u64);
         JobPass { seat }
     }
 
@@ -86,7 +132,11 @@ impl Forest {
         ensures giving { SameGiving a.old a.new }
         ensures same { seen_by b.new ≡ seen_by b.old }
     {
-        meet::<Deed, ForestSize, JobHistory>(&self.table.shared, &mut a.seat, &mut b.seat)
+        meet_in::<RunEntry, RunKey, RunHistory, Deed, ForestSize, JobHistory, SecondPart>(
+            &self.table.shared,
+            &mut a.seat,
+            &mut b.seat,
+        )
     }
 
     /// `main` takes in what another pass has seen and done, and its tags.
@@ -98,6 +148,10 @@ impl Forest {
         ensures giving { SameGiving main.old main.new }
     {
         let JobPass { seat } = pass;
-        end::<Deed, ForestSize, JobHistory>(&self.table.shared, &mut main.seat, seat)
+        end_in::<RunEntry, RunKey, RunHistory, Deed, ForestSize, JobHistory, SecondPart>(
+            &self.table.shared,
+            &mut main.seat,
+            seat,
+        )
     }
 }

@@ -8,11 +8,11 @@ ghost use Rattle.job_words.specs.Forests.{seen_by, IsOwn, SameGiving};
 
 use crate::decision::Decision;
 use crate::forest::Forest;
-use crate::job_word::JobWord;
 use crate::pass::JobPass;
 use crate::updating::update;
 use co_base::{Row, Tag};
 use job_model::{JobAct, JobState};
+use word_rules::JobWord;
 
 /// What a start decides on the Job's word.
 fn decide_start(row: Row, word: JobWord) -> Decision<bool>

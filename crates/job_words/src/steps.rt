@@ -1,16 +1,16 @@
 //! The three steps on a word of a forest.
 ghost use Rattle.std.specs.Prelude.{◌≡◌, ◌<◌};
 ghost use Rattle.worded.specs.Exchanges.{MayEnter, MayLift};
-ghost use Rattle.job_words.specs.Deeds.{shape_of, doer, word_count, IsDone, Fits};
+ghost use Rattle.word_rules.specs.Deeds.{shape_of, doer, word_count, IsDone, Fits};
 ghost use Rattle.job_words.specs.Passes.{Sees, ExchangeAnswer};
 ghost use Rattle.job_words.specs.Forests.{seen_by, IsOwn};
 
-use crate::deed::Deed;
-use crate::forest::{Forest, JobHistory};
+use crate::forest::Forest;
 use crate::pass::JobPass;
-use crate::size::ForestSize;
 use co_base::Tag;
-use worded::{exchange, lift, load};
+use either::Either;
+use joined_words::{SecondPart, exchange_in, lift_in, load_in};
+use word_rules::{Deed, ForestSize, JobHistory, RunEntry, RunHistory, RunKey};
 
 /// The word as it is now.
 pub(crate) fn load_word(forest: &Forest, pass: &mut JobPass, who: Tag, word: usize) -> u64
@@ -20,7 +20,12 @@ pub(crate) fn load_word(forest: &Forest, pass: &mut JobPass, who: Tag, word: usi
     ensures sees { Sees who (seen_by pass.old) (seen_by pass.new) }
     ensures found { Fits forest.now.size (seen_by pass.new).seen word result }
 {
-    load::<Deed, ForestSize, JobHistory>(&forest.table.shared, &mut pass.seat, word)
+    load_in::<RunEntry, RunKey, RunHistory, Deed, ForestSize, JobHistory, SecondPart>(
+        &forest.table.shared,
+        &mut pass.seat,
+        forest.first,
+        word,
+    )
 }
 
 /// Does the deed by turning the word from `old` into `new`, or finds another word.
@@ -40,13 +45,15 @@ pub(crate) fn exchange_word(
     ensures own { IsOwn forest.now pass.new who }
     ensures told { ExchangeAnswer who deed.now word old (seen_by pass.old) (seen_by pass.new) result }
 {
-    exchange::<Deed, ForestSize, JobHistory>(
+    let entry = Either::Right(*deed);
+    exchange_in::<RunEntry, RunKey, RunHistory, Deed, ForestSize, JobHistory, SecondPart>(
         &forest.table.shared,
         &mut pass.seat,
+        forest.first,
         word,
         old,
         new,
-        deed,
+        &entry,
     )
 }
 
@@ -58,5 +65,11 @@ pub(crate) fn lift_word(forest: &Forest, pass: &mut JobPass, who: Tag, word: usi
     ensures own { IsOwn forest.now pass.new who }
     ensures same { seen_by pass.new ≡ seen_by pass.old }
 {
-    lift::<Deed, ForestSize, JobHistory>(&forest.table.shared, &mut pass.seat, word, least)
+    lift_in::<RunEntry, RunKey, RunHistory, Deed, ForestSize, JobHistory, SecondPart>(
+        &forest.table.shared,
+        &mut pass.seat,
+        forest.first,
+        word,
+        least,
+    )
 }

@@ -2,7 +2,7 @@
 ghost use Rattle.std.specs.Prelude.{◌≡◌, ◌≤◌};
 ghost use Rattle.job_model.specs.Needs.{MayTell};
 ghost use Rattle.job_model.specs.Answers.{GoneAnswer};
-ghost use Rattle.job_words.specs.Deeds.{store_of};
+ghost use Rattle.word_rules.specs.Deeds.{store_of};
 ghost use Rattle.job_words.specs.Passes.{floor_seen};
 ghost use Rattle.job_words.specs.Decisions.{gone_decision};
 ghost use Rattle.job_words.specs.Forests.{seen_by, IsOwn, SameGiving};
@@ -10,12 +10,12 @@ ghost use Rattle.job_words.specs.Forests.{seen_by, IsOwn, SameGiving};
 use crate::decision::Decision;
 use crate::ending::owed_if;
 use crate::forest::Forest;
-use crate::job_word::JobWord;
 use crate::linking::load_link;
 use crate::pass::JobPass;
 use crate::updating::update;
 use co_base::{Row, Tag};
 use job_model::{Ended, JobAct};
+use word_rules::JobWord;
 
 /// What a child that is gone decides on its parent's word.
 fn decide_gone(row: Row, word: JobWord) -> Decision<Ended>

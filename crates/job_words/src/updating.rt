@@ -4,15 +4,15 @@ ghost use Rattle.job_words.specs.Passes.{Seen, Goes};
 ghost use Rattle.job_words.specs.Attaches.{IsAttached, IsWord};
 ghost use Rattle.job_words.specs.Decisions.{MayDecide, UpdateAnswer};
 ghost use Rattle.job_words.specs.Forests.{seen_by, IsOwn, SameGiving};
-ghost use Rattle.job_words.specs.declared.job_word.JobWord.{JobWord};
+ghost use Rattle.word_rules.specs.declared.job_word.JobWord.{JobWord};
 ghost use Rattle.job_words.specs.declared.decision.Decision.{Decision};
 
 use crate::decision::Decision;
 use crate::forest::Forest;
-use crate::job_word::JobWord;
 use crate::pass::JobPass;
 use crate::words::{act_on, load_job};
 use co_base::{Row, Tag};
+use word_rules::JobWord;
 
 /// Does what is decided on the Job word of a row. If the word has changed before the exchange, it decides anew.
 pub(crate) fn update<T: Copy, F: Fn(JobWord) -> Decision<T>>(

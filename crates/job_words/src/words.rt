@@ -1,20 +1,18 @@
 //! The two words of a row, as steps on them.
 ghost use Rattle.std.specs.Prelude.{◌≢◌, ◌<◌};
-ghost use Rattle.job_words.specs.Rows.{link_code, IsNarrow, IsNarrowLink};
-ghost use Rattle.job_words.specs.Deeds.{store_of, MayBeLink};
+ghost use Rattle.word_rules.specs.Rows.{link_code, IsNarrow, IsNarrowLink};
+ghost use Rattle.word_rules.specs.Deeds.{store_of, MayBeLink};
 ghost use Rattle.job_words.specs.Passes.{Sees};
 ghost use Rattle.job_words.specs.Attaches.{IsAttached, IsWord};
 ghost use Rattle.job_words.specs.Acts.{MayAct, ActAnswer};
 ghost use Rattle.job_words.specs.Forests.{seen_by, IsOwn};
 
-use crate::deed::Deed;
 use crate::forest::Forest;
-use crate::job_word::JobWord;
-use crate::link_word::LinkWord;
 use crate::pass::JobPass;
 use crate::steps::{exchange_word, load_word};
 use co_base::{Row, Tag};
 use job_model::{JobAct, JobEntry};
+use word_rules::{Deed, JobWord, LinkWord};
 
 /// The Job word of an attached row.
 pub(crate) fn load_job(forest: &Forest, pass: &mut JobPass, who: Tag, row: Row) -> JobWord

@@ -24,9 +24,10 @@ use Rattle.channel_model.proofs.PlainOffers.{plain_lasts, offered_plain}
 use Rattle.channel_model.proofs.Others.{others_keep, unsettled_stays, ready_stays, between}
 use Rattle.channel_model.proofs.Spans.{nothing_more, added_made}
 use Rattle.cell_words.specs.declared.pass.Pass.{Pass}
-use Rattle.cell_words.specs.Cells.{spot}
+use Rattle.word_rules.specs.Cells.{spot}
 use Rattle.cell_calls.proofs.OwnCells.{ready_told}
 use Rattle.word_bench.specs.Waits.{BeginsOffer, BeginsWait}
+use Rattle.cell_words.specs.Hubs.{seen_by}
 
 -- ---- it was begun
 
@@ -57,7 +58,7 @@ await_held who c p a b l m =
     ∙ ap (name_clause who 0 c) none in
     subst (IsUnsettledOf who) (sym begun) (refl, refl)
 
-module _ (who c : ℕ) (a b : Floor) (pass : Pass) (seen : b.seen ≡ pass.seat.me.0.seen) (l : Legal b.shape b.seen) where
+module _ (who c : ℕ) (a b : Floor) (pass : Pass) (seen : b.seen ≡ (seen_by pass).seen) (l : Legal b.shape b.seen) where
   pub offer_begins : (v : ℕ) (r : Offered) → OfferAnswer who c v a b r → BeginsOffer who c pass r
   offer_begins v (offered.Handed p t) h = tt
   offer_begins v (offered.Put p) h = tt

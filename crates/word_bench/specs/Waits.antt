@@ -8,7 +8,7 @@ use Rattle.channel_model.specs.Histories.{replay}
 use Rattle.channel_model.specs.Answers.{IsUnsettledOf, IsReadyWait}
 use Rattle.channel_model.specs.PlainOffers.{OffersPlainly}
 use Rattle.cell_words.specs.declared.pass.Pass.{Pass}
-use Rattle.cell_words.specs.Cells.{spot}
+use Rattle.word_rules.specs.Cells.{spot}
 use Rattle.cell_words.specs.Hubs.{seen_by}
 
 -- the wait that began at this place of a channel is who's, who has not settled it

@@ -1,4 +1,5 @@
 pub mod Given
+pub mod SameForests
 pub mod SeatsTell
 pub mod NewSeats
 pub mod OneFate

@@ -6,9 +6,8 @@ use Rattle.channel_model.specs.declared.acts.Entry.{Entry}
 use Rattle.channel_model.specs.Histories.{Legal}
 use Rattle.channel_fates.proofs.AtMostOne.{replay_one_fate}
 use Rattle.channel_fates.proofs.Delivered.{replay_delivered_once}
-use Rattle.cell_words.specs.declared.layout.Layout.{Layout}
-use Rattle.cell_words.specs.Words.{Fits, word_count}
-use Rattle.cell_words.specs.Seen.{maker}
+use Rattle.word_rules.specs.declared.layout.Layout.{Layout}
+use Rattle.word_rules.specs.Words.{Fits, word_count, maker}
 use Rattle.cell_words.specs.Tables.{HoldsChannels}
 use Rattle.cell_words.proofs.TableHoldsChannels.{holds_channels}
 use Rattle.word_seats.specs.HubFates.{HoldsElementsOnce}

@@ -6,7 +6,7 @@ use Rattle.channel_model.specs.declared.acts.Entry.{Entry}
 use Rattle.channel_model.specs.Channels.{Shape}
 use Rattle.channel_model.specs.Histories.{acts_in}
 use Rattle.channel_fates.specs.OneFate.{IsAtMostOneFate, deliveries_of}
-use Rattle.cell_words.specs.declared.layout.Layout.{Layout}
+use Rattle.word_rules.specs.declared.layout.Layout.{Layout}
 use Rattle.cell_words.specs.Tables.{HoldsChannels}
 
 -- in the legal history that the words are those of, at most one of received, undelivered, dropped, spurned and withdrawn applies to the

@@ -27,7 +27,7 @@ pub struct ForestSeat<'a, N: ForestName> {
     pub pass: JobPass,
     pub name: PhantomData<N>,
     pub ghost of: { IsOf forest.now pass } by { Prim.hlevel props },
-    pub ghost named: { IsNamedForest N.forest_table N.forest_size forest.now } by { Prim.hlevel props },
+    pub ghost named: { IsNamedForest N.forest_table N.forest_key forest.now } by { Prim.hlevel props },
 }
 
 impl<N: ForestName> JobFloor for ForestSeat<'_, N> {

@@ -29,7 +29,7 @@ pub struct HubSeat<'a, N: HubName> {
     pub pass: Pass,
     pub name: PhantomData<N>,
     pub ghost of: { IsOf hub.now pass } by { Prim.hlevel props },
-    pub ghost named: { IsNamedHub N.hub_table N.hub_layout hub.now } by { Prim.hlevel props },
+    pub ghost named: { IsNamedHub N.hub_table N.hub_key hub.now } by { Prim.hlevel props },
 }
 
 impl<N: HubName> ChannelFloor for HubSeat<'_, N> {

@@ -6,9 +6,8 @@ ghost use Rattle.worded.specs.Histories.{HasOneHistory};
 ghost use Rattle.worded.specs.declared.view.View.{View};
 ghost use Rattle.channel_model.specs.declared.acts.Entry.{Entry as AnEntry};
 ghost use Rattle.channel_model.specs.Histories.{Legal};
-ghost use Rattle.cell_words.specs.declared.layout.Layout.{Layout as ALayout};
-ghost use Rattle.cell_words.specs.Words.{Fits, word_count};
-ghost use Rattle.cell_words.specs.Seen.{maker};
+ghost use Rattle.word_rules.specs.declared.layout.Layout.{Layout as ALayout};
+ghost use Rattle.word_rules.specs.Words.{Fits, word_count, maker};
 ghost use Rattle.word_seats.specs.HubFates.{HoldsElementsOnce};
 
 /// Between any two steps the words of a hub are those of one legal history, in which each element has at most one fate and was given to

@@ -1,7 +1,7 @@
 use Rattle.std.proofs.Common.{None, inl, sym, ap, subst, ◌∙◌}
 use Rattle.channel_model.specs.Answers.{StandsNothing, DrainAnswer}
 use Rattle.cell_words.specs.declared.found.Removal.TheVariants as removal
-use Rattle.cell_words.specs.Hubs.{shape_of}
+use Rattle.cell_words.specs.Hubs.{shape_of, seen_by}
 use Rattle.cell_words.specs.Seen.{Makes, tags_given}
 use Rattle.cell_words.specs.Answers.{RemovesFrom}
 use Rattle.cell_words.proofs.LooksAtCells.{hub_legal, below_seen, sees_then}
@@ -12,18 +12,18 @@ use Rattle.cell_calls.proofs.cancelling.drain.Goals.{in-Waiting+in-None, in-Kept
 use Rattle.cell_calls.proofs.cancelling.drain.Goals as goal
 
 pub remove_offer-requires-clause-may : goal.remove_offer-requires-clause-may
-remove_offer-requires-clause-may c = voided_seen (shape_of c.args.hub.now) c.args.c c.args.pass.now.seat.me.0
-    c.try_await_at.new.pass.seat.me.0 (sees_then _ _ _ c.loop-place.invariant.sees c.in-Waiting.ensures.at.0)
+remove_offer-requires-clause-may c = voided_seen (shape_of c.args.hub.now) c.args.c (seen_by c.args.pass.now)
+    (seen_by c.try_await_at.new.pass) (sees_then _ _ _ c.loop-place.invariant.sees c.in-Waiting.ensures.at.0)
     (hub_legal c.args.hub.now c.try_await_at.new.pass c.try_await_at.ensures.own.0) c.requires.voided
 
 pub remove_kept-requires-clause-may : goal.remove_kept-requires-clause-may
-remove_kept-requires-clause-may c = voided_seen (shape_of c.args.hub.now) c.args.c c.args.pass.now.seat.me.0
-    c.try_await_at.new.pass.seat.me.0 (sees_then _ _ _ c.loop-place.invariant.sees c.in-Kept.ensures.at.0)
+remove_kept-requires-clause-may c = voided_seen (shape_of c.args.hub.now) c.args.c (seen_by c.args.pass.now)
+    (seen_by c.try_await_at.new.pass) (sees_then _ _ _ c.loop-place.invariant.sees c.in-Kept.ensures.at.0)
     (hub_legal c.args.hub.now c.try_await_at.new.pass c.try_await_at.ensures.own.0) c.requires.voided
 
 pub raise_receives-requires-clause-low : goal.raise_receives-requires-clause-low
 raise_receives-requires-clause-low c = let t = c.in-Some.ensures.removed in
-    removed_past (shape_of c.args.hub.now) c.args.who c.args.c c.loop-place.place t.then c.remove_offer.new.pass.seat.me.0
+    removed_past (shape_of c.args.hub.now) c.args.who c.args.c c.loop-place.place t.then (seen_by c.remove_offer.new.pass)
     (hub_legal c.args.hub.now c.remove_offer.new.pass c.remove_offer.ensures.own.0) removal.Drain tt _ _ t.removes
 
 pub returns-in-Some-clause-answer : goal.returns-in-Some-clause-answer
@@ -42,12 +42,12 @@ remove_kept-requires-clause-kept c = inl c.in-Kept.ensures.at.2
 
 pub raise_receives-requires-then-remove_kept-clause-low : goal.raise_receives-requires-then-remove_kept-clause-low
 raise_receives-requires-then-remove_kept-clause-low c =
-    removed_past (shape_of c.args.hub.now) c.args.who c.args.c c.loop-place.place c.try_await_at.new.pass.seat.me.0
-    c.remove_kept.new.pass.seat.me.0 (hub_legal c.args.hub.now c.remove_kept.new.pass c.remove_kept.ensures.own.0) removal.Drain tt _ _
+    removed_past (shape_of c.args.hub.now) c.args.who c.args.c c.loop-place.place (seen_by c.try_await_at.new.pass)
+    (seen_by c.remove_kept.new.pass) (hub_legal c.args.hub.now c.remove_kept.new.pass c.remove_kept.ensures.own.0) removal.Drain tt _ _
     (rw c.if-remove_kept.true at c.remove_kept.ensures.removed)
 
 pub returns-then-remove_kept-clause-answer : goal.returns-then-remove_kept-clause-answer
-returns-then-remove_kept-clause-answer c = let w = c.try_await_at.new.pass.seat.me.0 in
+returns-then-remove_kept-clause-answer c = let w = seen_by c.try_await_at.new.pass in
     drained_of c.args.hub.now c.args.who c.args.pass.now c.raise_receives-then-remove_kept.new.pass w c.args.c c.loop-place.place _ None
     c.requires.can.caller (sees_then _ _ _ c.loop-place.invariant.sees c.in-Kept.ensures.at.0)
     (subst (RemovesFrom removal.Drain c.args.who c.args.c c.loop-place.place _ None w) (sym c.raise_receives-then-remove_kept.ensures.same)
@@ -55,13 +55,13 @@ returns-then-remove_kept-clause-answer c = let w = c.try_await_at.new.pass.seat.
 
 pub returns-then-remove_kept-clause-giving : goal.returns-then-remove_kept-clause-giving
 returns-then-remove_kept-clause-giving c =
-    (subst (RemovesFrom removal.Drain c.args.who c.args.c c.loop-place.place _ None c.try_await_at.new.pass.seat.me.0)
+    (subst (RemovesFrom removal.Drain c.args.who c.args.c c.loop-place.place _ None (seen_by c.try_await_at.new.pass))
     (sym c.raise_receives-then-remove_kept.ensures.same) c.if-remove_kept.ensures.removed).made.giving ∙ c.in-Kept.ensures.at.0.giving
     ∙ c.loop-place.invariant.sees.giving
 
 pub raise_receives-requires-in-Closed-clause-low : goal.raise_receives-requires-in-Closed-clause-low
 raise_receives-requires-in-Closed-clause-low c = below_seen (shape_of c.args.hub.now) 0 c.loop-place.place c.args.c
-    c.loop-place.pass.seat.me.0 c.try_await_at.new.pass.seat.me.0 c.in-Closed.ensures.at.0
+    (seen_by c.loop-place.pass) (seen_by c.try_await_at.new.pass) c.in-Closed.ensures.at.0
     (hub_legal c.args.hub.now c.try_await_at.new.pass c.try_await_at.ensures.own.0) c.loop-place.invariant.low
 
 pub returns-in-Closed-clause-answer : goal.returns-in-Closed-clause-answer
@@ -116,6 +116,6 @@ loop-place-init c = record {
 }
 
 pub unreachable-requires-2 : goal.unreachable-requires-2
-unreachable-requires-2 c = too_far (shape_of c.args.hub.now) c.loop-place.pass.seat.me.0.seen c.args.c c.loop-place.place
+unreachable-requires-2 c = too_far (shape_of c.args.hub.now) (seen_by c.loop-place.pass).seen c.args.c c.loop-place.place
     c.places_of-places.result (hub_legal c.args.hub.now c.loop-place.pass c.loop-place.invariant.own.0)
     c.loop-place.invariant.low.given_offers c.places_of-places.ensures c.loop-place-test.false

@@ -1,4 +1,4 @@
-use Rattle.cell_words.specs.Hubs.{shape_of}
+use Rattle.cell_words.specs.Hubs.{shape_of, seen_by}
 use Rattle.cell_words.proofs.LooksAtCells.{hub_legal, sees_then}
 use Rattle.cell_words.proofs.WalksToAdmit.{sees_self}
 use Rattle.cell_calls.proofs.CallsTell.{too_far}
@@ -18,9 +18,9 @@ loop-place-preserved c = record {
 }
 
 pub unreachable-requires : goal.unreachable-requires
-unreachable-requires c = too_far (shape_of c.args.hub.now) c.loop-place.pass.seat.me.0.seen c.args.c c.loop-place.place
+unreachable-requires c = too_far (shape_of c.args.hub.now) (seen_by c.loop-place.pass).seen c.args.c c.loop-place.place
     c.places_of-places.result (hub_legal c.args.hub.now c.loop-place.pass c.loop-place.invariant.own.0) c.loop-place.invariant.given
     c.places_of-places.ensures c.loop-place-test.false
 
 pub loop-place-init : goal.loop-place-init
-loop-place-init c = record { own = c.requires.own; sees = sees_self c.args.pass.now.seat.me.0; given = c.requires.given }
+loop-place-init c = record { own = c.requires.own; sees = sees_self (seen_by c.args.pass.now); given = c.requires.given }

@@ -1,7 +1,7 @@
 use Rattle.std.proofs.Common.{◌≡◌, sym, ◌∙◌, subst, Option}
 use Rattle.co_base.specs.declared.names.WaitId.{WaitId}
 use Rattle.channel_model.specs.declared.floor.WaitState.TheVariants as state
-use Rattle.cell_words.specs.Hubs.{shape_of}
+use Rattle.cell_words.specs.Hubs.{shape_of, seen_by}
 use Rattle.cell_words.proofs.LooksAtCells.{hub_legal}
 use Rattle.cell_calls.specs.Registrations.{IsOwnMain}
 use Rattle.cell_calls.proofs.CallsTell.{sees_self}
@@ -9,19 +9,19 @@ use Rattle.cell_calls.proofs.WaitsOfSelects.{main_stands, main_resolved, no_main
 use Rattle.cell_calls.proofs.registering.is_resolved.Goals as goal
 
 pub returns-in-None-clause-sees : goal.returns-in-None-clause-sees
-returns-in-None-clause-sees c = sees_self c.args.pass.now.seat.me.0
+returns-in-None-clause-sees c = sees_self (seen_by c.args.pass.now)
 
 pub returns-in-None-clause-resolved : goal.returns-in-None-clause-resolved
 returns-in-None-clause-resolved c = no_main c.args.hub.now c.args.pass.now c.args.main c.in-None.is
 
 pub look_at-requires-clause-at : goal.look_at-requires-clause-at
 look_at-requires-clause-at c =
-    (subst (λ (z : Option WaitId). IsOwnMain (shape_of c.args.hub.now) c.args.who z c.args.pass.now.seat.me.0.seen) c.in-Some.is
+    (subst (λ (z : Option WaitId). IsOwnMain (shape_of c.args.hub.now) c.args.who z (seen_by c.args.pass.now).seen) c.in-Some.is
     c.requires.main).0
 
 pub look_at-requires-clause-mine : goal.look_at-requires-clause-mine
 look_at-requires-clause-mine c =
-    (subst (λ (z : Option WaitId). IsOwnMain (shape_of c.args.hub.now) c.args.who z c.args.pass.now.seat.me.0.seen) c.in-Some.is
+    (subst (λ (z : Option WaitId). IsOwnMain (shape_of c.args.hub.now) c.args.who z (seen_by c.args.pass.now).seen) c.in-Some.is
     c.requires.main).1
 
 pub returns-in-Standing-clause-resolved : goal.returns-in-Standing-clause-resolved

@@ -1,7 +1,7 @@
 use Rattle.std.proofs.Common.{◌∙◌}
 use Rattle.channel_model.specs.Answers.{IsSpentForOffers}
 use Rattle.channel_model.specs.Registers.{StandsReceiver}
-use Rattle.cell_words.specs.Hubs.{shape_of}
+use Rattle.cell_words.specs.Hubs.{shape_of, seen_by}
 use Rattle.cell_words.specs.Seen.{at_channel}
 use Rattle.cell_words.proofs.LooksAtCells.{hub_legal, below_seen, none_below_start, sees_then}
 use Rattle.cell_calls.specs.Registrations.{IsMainStanding}
@@ -27,19 +27,19 @@ returns-then-is_resolved-clause-giving c = c.is_resolved.ensures.sees.giving
 
 pub offer_clause_at-requires-clause-may : goal.offer_clause_at-requires-clause-may
 offer_clause_at-requires-clause-may c = may_place_later c.args.hub.now c.args.pass.now c.args.who c.args.clause c.args.c
-    (hub_legal c.args.hub.now c.args.pass.now c.requires.of) c.args.main c.loop-place.pass.seat.me.0 c.requires.can.caller
+    (hub_legal c.args.hub.now c.args.pass.now c.requires.of) c.args.main (seen_by c.loop-place.pass) c.requires.can.caller
     c.loop-place.invariant.sees (hub_legal c.args.hub.now c.loop-place.pass c.loop-place.invariant.own.0) c.requires.joins
 
 pub returns-then-is_resolved-clause-low : goal.returns-then-is_resolved-clause-low
-returns-then-is_resolved-clause-low c = none_below_start (at_channel c.is_resolved.new.pass.seat.me.0.seen c.args.c)
+returns-then-is_resolved-clause-low c = none_below_start (at_channel (seen_by c.is_resolved.new.pass).seen c.args.c)
 
 pub returns-in-Placed-clause-low : goal.returns-in-Placed-clause-low
-returns-in-Placed-clause-low c = held_past (shape_of c.args.hub.now) c.args.who c.args.c c.loop-place.place c.loop-place.pass.seat.me.0
-    c.offer_clause_at.new.pass.seat.me.0 (hub_legal c.args.hub.now c.offer_clause_at.new.pass c.offer_clause_at.ensures.own.0) _ _ _
+returns-in-Placed-clause-low c = held_past (shape_of c.args.hub.now) c.args.who c.args.c c.loop-place.place (seen_by c.loop-place.pass)
+    (seen_by c.offer_clause_at.new.pass) (hub_legal c.args.hub.now c.offer_clause_at.new.pass c.offer_clause_at.ensures.own.0) _ _ _
     c.in-Placed.ensures.at
 
 pub returns-in-Placed-clause-answer : goal.returns-in-Placed-clause-answer
-returns-in-Placed-clause-answer c = made_of c.args.hub.now c.args.who c.args.pass.now c.offer_clause_at.new.pass c.loop-place.pass.seat.me.0
+returns-in-Placed-clause-answer c = made_of c.args.hub.now c.args.who c.args.pass.now c.offer_clause_at.new.pass (seen_by c.loop-place.pass)
     _ c.requires.can.caller c.loop-place.invariant.sees c.in-Placed.ensures.at
 
 pub returns-in-Placed-clause-giving : goal.returns-in-Placed-clause-giving
@@ -48,11 +48,11 @@ returns-in-Placed-clause-giving c = c.in-Placed.ensures.at.giving ∙ c.loop-pla
 pub returns-in-Placed-clause-first : goal.returns-in-Placed-clause-first
 returns-in-Placed-clause-first c = moment_seen c.args.hub.now c.args.who c.args.pass.now c.loop-place.pass c.offer_clause_at.new.pass
     (IsMainStanding c.args.main) c.loop-place.invariant.first
-    (prefix_made c.loop-place.pass.seat.me.0 c.offer_clause_at.new.pass.seat.me.0 _ c.in-Placed.ensures.at)
+    (prefix_made (seen_by c.loop-place.pass) (seen_by c.offer_clause_at.new.pass) _ c.in-Placed.ensures.at)
 
 pub returns-then-receiver_stands-clause-low : goal.returns-then-receiver_stands-clause-low
-returns-then-receiver_stands-clause-low c = below_seen (shape_of c.args.hub.now) c.loop-place.place 0 c.args.c c.loop-place.pass.seat.me.0
-    c.receiver_stands.new.pass.seat.me.0 (sees_then _ _ _ c.in-Waiting.ensures.at.0 c.if-receiver_stands.ensures.stands.0)
+returns-then-receiver_stands-clause-low c = below_seen (shape_of c.args.hub.now) c.loop-place.place 0 c.args.c (seen_by c.loop-place.pass)
+    (seen_by c.receiver_stands.new.pass) (sees_then _ _ _ c.in-Waiting.ensures.at.0 c.if-receiver_stands.ensures.stands.0)
     (hub_legal c.args.hub.now c.receiver_stands.new.pass c.receiver_stands.ensures.own.0) c.loop-place.invariant.low
 
 pub returns-then-receiver_stands-clause-answer : goal.returns-then-receiver_stands-clause-answer
@@ -70,8 +70,8 @@ returns-then-receiver_stands-clause-first c = moment_seen c.args.hub.now c.args.
     (prefix_seen _ _ (sees_then _ _ _ c.in-Waiting.ensures.at.0 c.if-receiver_stands.ensures.stands.0))
 
 pub returns-in-Closed-clause-low : goal.returns-in-Closed-clause-low
-returns-in-Closed-clause-low c = below_seen (shape_of c.args.hub.now) c.loop-place.place 0 c.args.c c.loop-place.pass.seat.me.0
-    c.offer_clause_at.new.pass.seat.me.0 c.in-Closed.ensures.at.0
+returns-in-Closed-clause-low c = below_seen (shape_of c.args.hub.now) c.loop-place.place 0 c.args.c (seen_by c.loop-place.pass)
+    (seen_by c.offer_clause_at.new.pass) c.in-Closed.ensures.at.0
     (hub_legal c.args.hub.now c.offer_clause_at.new.pass c.offer_clause_at.ensures.own.0) c.loop-place.invariant.low
 
 pub returns-in-Closed-clause-answer : goal.returns-in-Closed-clause-answer
@@ -90,8 +90,8 @@ returns-in-Closed-clause-first c = moment_seen c.args.hub.now c.args.who c.args.
     (IsMainStanding c.args.main) c.loop-place.invariant.first (prefix_seen _ _ c.in-Closed.ensures.at.0)
 
 pub returns-in-Spent-clause-low : goal.returns-in-Spent-clause-low
-returns-in-Spent-clause-low c = below_seen (shape_of c.args.hub.now) c.loop-place.place 0 c.args.c c.loop-place.pass.seat.me.0
-    c.offer_clause_at.new.pass.seat.me.0 c.in-Spent.ensures.at.0
+returns-in-Spent-clause-low c = below_seen (shape_of c.args.hub.now) c.loop-place.place 0 c.args.c (seen_by c.loop-place.pass)
+    (seen_by c.offer_clause_at.new.pass) c.in-Spent.ensures.at.0
     (hub_legal c.args.hub.now c.offer_clause_at.new.pass c.offer_clause_at.ensures.own.0) c.loop-place.invariant.low
 
 pub returns-in-Spent-clause-answer : goal.returns-in-Spent-clause-answer
@@ -133,12 +133,12 @@ loop-place-init c = let r = c.is_resolved.ensures in let f = c.sends_from-from.e
   own = f.own;
   sees = sees_then _ _ _ r.sees f.sees;
   low = f.low;
-  first = moment_of c.args.hub.now c.args.who c.args.pass.now c.sends_from-from.new.pass c.is_resolved.new.pass.seat.me.0
+  first = moment_of c.args.hub.now c.args.who c.args.pass.now c.sends_from-from.new.pass (seen_by c.is_resolved.new.pass)
       (IsMainStanding c.args.main) c.requires.can.caller r.sees (prefix_seen _ _ f.sees)
       (rw c.if-is_resolved.false at c.is_resolved.ensures.resolved);
 }
 
 pub unreachable-requires-2 : goal.unreachable-requires-2
-unreachable-requires-2 c = too_far (shape_of c.args.hub.now) c.loop-place.pass.seat.me.0.seen c.args.c c.loop-place.place
+unreachable-requires-2 c = too_far (shape_of c.args.hub.now) (seen_by c.loop-place.pass).seen c.args.c c.loop-place.place
     c.places_of-places.result (hub_legal c.args.hub.now c.loop-place.pass c.loop-place.invariant.own.0) c.loop-place.invariant.low.given
     c.places_of-places.ensures c.loop-place-test.false

@@ -1,7 +1,7 @@
 use Rattle.std.proofs.Common.{◌∙◌}
 use Rattle.channel_model.specs.Answers.{IsSpentForReceives}
 use Rattle.channel_model.specs.Registers.{StandsOffer}
-use Rattle.cell_words.specs.Hubs.{shape_of}
+use Rattle.cell_words.specs.Hubs.{shape_of, seen_by}
 use Rattle.cell_words.specs.Seen.{at_channel}
 use Rattle.cell_words.proofs.LooksAtCells.{hub_legal, below_seen, none_below_start, sees_then}
 use Rattle.cell_words.proofs.StandsAtPlaces.{kept_first, offers_given}
@@ -28,19 +28,19 @@ returns-then-is_resolved-clause-giving c = c.is_resolved.ensures.sees.giving
 
 pub await_clause_at-requires-clause-may : goal.await_clause_at-requires-clause-may
 await_clause_at-requires-clause-may c = may_place_later c.args.hub.now c.args.pass.now c.args.who c.args.clause c.args.c
-    (hub_legal c.args.hub.now c.args.pass.now c.requires.of) c.args.main c.loop-place.pass.seat.me.0 c.requires.can.caller
+    (hub_legal c.args.hub.now c.args.pass.now c.requires.of) c.args.main (seen_by c.loop-place.pass) c.requires.can.caller
     c.loop-place.invariant.sees (hub_legal c.args.hub.now c.loop-place.pass c.loop-place.invariant.own.0) c.requires.joins
 
 pub returns-then-is_resolved-clause-low : goal.returns-then-is_resolved-clause-low
-returns-then-is_resolved-clause-low c = none_below_start (at_channel c.is_resolved.new.pass.seat.me.0.seen c.args.c)
+returns-then-is_resolved-clause-low c = none_below_start (at_channel (seen_by c.is_resolved.new.pass).seen c.args.c)
 
 pub returns-in-Placed-clause-low : goal.returns-in-Placed-clause-low
-returns-in-Placed-clause-low c = awaited_past (shape_of c.args.hub.now) c.args.who c.args.c c.loop-place.place c.loop-place.pass.seat.me.0
-    c.await_clause_at.new.pass.seat.me.0 (hub_legal c.args.hub.now c.await_clause_at.new.pass c.await_clause_at.ensures.own.0) _ _
+returns-in-Placed-clause-low c = awaited_past (shape_of c.args.hub.now) c.args.who c.args.c c.loop-place.place (seen_by c.loop-place.pass)
+    (seen_by c.await_clause_at.new.pass) (hub_legal c.args.hub.now c.await_clause_at.new.pass c.await_clause_at.ensures.own.0) _ _
     c.in-Placed.ensures.at
 
 pub returns-in-Placed-clause-answer : goal.returns-in-Placed-clause-answer
-returns-in-Placed-clause-answer c = made_of c.args.hub.now c.args.who c.args.pass.now c.await_clause_at.new.pass c.loop-place.pass.seat.me.0
+returns-in-Placed-clause-answer c = made_of c.args.hub.now c.args.who c.args.pass.now c.await_clause_at.new.pass (seen_by c.loop-place.pass)
     _ c.requires.can.caller c.loop-place.invariant.sees c.in-Placed.ensures.at
 
 pub returns-in-Placed-clause-giving : goal.returns-in-Placed-clause-giving
@@ -49,11 +49,11 @@ returns-in-Placed-clause-giving c = c.in-Placed.ensures.at.giving ∙ c.loop-pla
 pub returns-in-Placed-clause-first : goal.returns-in-Placed-clause-first
 returns-in-Placed-clause-first c = moment_seen c.args.hub.now c.args.who c.args.pass.now c.loop-place.pass c.await_clause_at.new.pass
     (IsMainStanding c.args.main) c.loop-place.invariant.first
-    (prefix_made c.loop-place.pass.seat.me.0 c.await_clause_at.new.pass.seat.me.0 _ c.in-Placed.ensures.at)
+    (prefix_made (seen_by c.loop-place.pass) (seen_by c.await_clause_at.new.pass) _ c.in-Placed.ensures.at)
 
 pub returns-then-offer_stands-clause-low : goal.returns-then-offer_stands-clause-low
-returns-then-offer_stands-clause-low c = below_seen (shape_of c.args.hub.now) 0 c.loop-place.place c.args.c c.loop-place.pass.seat.me.0
-    c.offer_stands.new.pass.seat.me.0 (sees_then _ _ _ c.in-Waiting.ensures.at.0 c.if-offer_stands.ensures.stands.0)
+returns-then-offer_stands-clause-low c = below_seen (shape_of c.args.hub.now) 0 c.loop-place.place c.args.c (seen_by c.loop-place.pass)
+    (seen_by c.offer_stands.new.pass) (sees_then _ _ _ c.in-Waiting.ensures.at.0 c.if-offer_stands.ensures.stands.0)
     (hub_legal c.args.hub.now c.offer_stands.new.pass c.offer_stands.ensures.own.0) c.loop-place.invariant.low
 
 pub returns-then-offer_stands-clause-answer : goal.returns-then-offer_stands-clause-answer
@@ -61,8 +61,8 @@ returns-then-offer_stands-clause-answer c =
     let t = c.if-offer_stands.ensures.stands in
     let s = sees_then _ _ _ c.loop-place.invariant.sees c.in-Waiting.ensures.at.0 in (
       looked_of c.args.hub.now c.args.who c.args.pass.now c.offer_stands.new.pass c.requires.can.caller (sees_then _ _ _ s t.0),
-      step_of c.args.hub.now c.args.who c.args.pass.now c.offer_stands.new.pass c.await_clause_at.new.pass.seat.me.0
-          (StandsOffer c.args.c c.loop-place.place) s (prefix_seen c.await_clause_at.new.pass.seat.me.0 c.offer_stands.new.pass.seat.me.0
+      step_of c.args.hub.now c.args.who c.args.pass.now c.offer_stands.new.pass (seen_by c.await_clause_at.new.pass)
+          (StandsOffer c.args.c c.loop-place.place) s (prefix_seen (seen_by c.await_clause_at.new.pass) (seen_by c.offer_stands.new.pass)
           t.0)
           t.1,
     )
@@ -77,19 +77,19 @@ returns-then-offer_stands-clause-first c = moment_seen c.args.hub.now c.args.who
     (prefix_seen _ _ (sees_then _ _ _ c.in-Waiting.ensures.at.0 c.if-offer_stands.ensures.stands.0))
 
 pub offer_stands-requires-clause-given : goal.offer_stands-requires-clause-given
-offer_stands-requires-clause-given c = offers_given (shape_of c.args.hub.now) c.await_clause_at.new.pass.seat.me.0.seen c.args.c
+offer_stands-requires-clause-given c = offers_given (shape_of c.args.hub.now) (seen_by c.await_clause_at.new.pass).seen c.args.c
     c.loop-place.place _ (hub_legal c.args.hub.now c.await_clause_at.new.pass c.await_clause_at.ensures.own.0) c.in-Waiting.ensures.at.2
 
 pub returns-in-Kept-clause-low : goal.returns-in-Kept-clause-low
-returns-in-Kept-clause-low c = below_seen (shape_of c.args.hub.now) 0 c.loop-place.place c.args.c c.loop-place.pass.seat.me.0
-    c.await_clause_at.new.pass.seat.me.0 c.in-Kept.ensures.at.0
+returns-in-Kept-clause-low c = below_seen (shape_of c.args.hub.now) 0 c.loop-place.place c.args.c (seen_by c.loop-place.pass)
+    (seen_by c.await_clause_at.new.pass) c.in-Kept.ensures.at.0
     (hub_legal c.args.hub.now c.await_clause_at.new.pass c.await_clause_at.ensures.own.0) c.loop-place.invariant.low
 
 pub returns-in-Kept-clause-answer : goal.returns-in-Kept-clause-answer
 returns-in-Kept-clause-answer c = let t = c.in-Kept.ensures.at in
     seen_of c.args.hub.now c.args.who c.args.pass.now c.await_clause_at.new.pass (StandsOffer c.args.c c.loop-place.place)
     c.requires.can.caller (sees_then _ _ _ c.loop-place.invariant.sees t.0)
-    (kept_first (shape_of c.args.hub.now) c.await_clause_at.new.pass.seat.me.0.seen c.args.c c.loop-place.place _
+    (kept_first (shape_of c.args.hub.now) (seen_by c.await_clause_at.new.pass).seen c.args.c c.loop-place.place _
     (hub_legal c.args.hub.now c.await_clause_at.new.pass c.await_clause_at.ensures.own.0) t.1 t.2)
 
 pub returns-in-Kept-clause-giving : goal.returns-in-Kept-clause-giving
@@ -100,8 +100,8 @@ returns-in-Kept-clause-first c = moment_seen c.args.hub.now c.args.who c.args.pa
     (IsMainStanding c.args.main) c.loop-place.invariant.first (prefix_seen _ _ c.in-Kept.ensures.at.0)
 
 pub returns-in-Closed-clause-low : goal.returns-in-Closed-clause-low
-returns-in-Closed-clause-low c = below_seen (shape_of c.args.hub.now) 0 c.loop-place.place c.args.c c.loop-place.pass.seat.me.0
-    c.await_clause_at.new.pass.seat.me.0 c.in-Closed.ensures.at.0
+returns-in-Closed-clause-low c = below_seen (shape_of c.args.hub.now) 0 c.loop-place.place c.args.c (seen_by c.loop-place.pass)
+    (seen_by c.await_clause_at.new.pass) c.in-Closed.ensures.at.0
     (hub_legal c.args.hub.now c.await_clause_at.new.pass c.await_clause_at.ensures.own.0) c.loop-place.invariant.low
 
 pub returns-in-Closed-clause-answer : goal.returns-in-Closed-clause-answer
@@ -117,8 +117,8 @@ returns-in-Closed-clause-first c = moment_seen c.args.hub.now c.args.who c.args.
     (IsMainStanding c.args.main) c.loop-place.invariant.first (prefix_seen _ _ c.in-Closed.ensures.at.0)
 
 pub returns-in-Spent-clause-low : goal.returns-in-Spent-clause-low
-returns-in-Spent-clause-low c = below_seen (shape_of c.args.hub.now) 0 c.loop-place.place c.args.c c.loop-place.pass.seat.me.0
-    c.await_clause_at.new.pass.seat.me.0 c.in-Spent.ensures.at.0
+returns-in-Spent-clause-low c = below_seen (shape_of c.args.hub.now) 0 c.loop-place.place c.args.c (seen_by c.loop-place.pass)
+    (seen_by c.await_clause_at.new.pass) c.in-Spent.ensures.at.0
     (hub_legal c.args.hub.now c.await_clause_at.new.pass c.await_clause_at.ensures.own.0) c.loop-place.invariant.low
 
 pub returns-in-Spent-clause-answer : goal.returns-in-Spent-clause-answer
@@ -161,12 +161,12 @@ loop-place-init c = let r = c.is_resolved.ensures in let f = c.receives_from-fro
   own = f.own;
   sees = sees_then _ _ _ r.sees f.sees;
   low = f.low;
-  first = moment_of c.args.hub.now c.args.who c.args.pass.now c.receives_from-from.new.pass c.is_resolved.new.pass.seat.me.0
+  first = moment_of c.args.hub.now c.args.who c.args.pass.now c.receives_from-from.new.pass (seen_by c.is_resolved.new.pass)
       (IsMainStanding c.args.main) c.requires.can.caller r.sees (prefix_seen _ _ f.sees)
       (rw c.if-is_resolved.false at c.is_resolved.ensures.resolved);
 }
 
 pub unreachable-requires-2 : goal.unreachable-requires-2
-unreachable-requires-2 c = too_far (shape_of c.args.hub.now) c.loop-place.pass.seat.me.0.seen c.args.c c.loop-place.place
+unreachable-requires-2 c = too_far (shape_of c.args.hub.now) (seen_by c.loop-place.pass).seen c.args.c c.loop-place.place
     c.places_of-places.result (hub_legal c.args.hub.now c.loop-place.pass c.loop-place.invariant.own.0)
     c.loop-place.invariant.low.given_offers c.places_of-places.ensures c.loop-place-test.false

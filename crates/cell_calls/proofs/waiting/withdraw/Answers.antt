@@ -1,5 +1,5 @@
 use Rattle.std.proofs.Common.{refl}
-use Rattle.cell_words.specs.Hubs.{shape_of}
+use Rattle.cell_words.specs.Hubs.{shape_of, seen_by}
 use Rattle.cell_words.proofs.LooksAtCells.{hub_legal}
 use Rattle.cell_calls.proofs.CallsTell.{sees_self, looked_of, made_of, wait_place}
 use Rattle.cell_calls.proofs.waiting.withdraw.Goals as goal
@@ -7,14 +7,14 @@ use Rattle.cell_calls.proofs.waiting.withdraw.Goals as goal
 pub withdraw_at-requires-clause-at : goal.withdraw_at-requires-clause-at
 withdraw_at-requires-clause-at c = (
   c.requires.can.channel,
-  wait_place (shape_of c.args.hub.now) c.args.pass.now.seat.me.0.seen c.args.who c.args.w
+  wait_place (shape_of c.args.hub.now) (seen_by c.args.pass.now).seen c.args.who c.args.w
       (hub_legal c.args.hub.now c.args.pass.now c.requires.of) c.requires.own,
 )
 
 pub returns-then-withdraw_at-clause-answer : goal.returns-then-withdraw_at-clause-answer
 returns-then-withdraw_at-clause-answer c = (
   made_of c.args.hub.now c.args.who c.args.pass.now c.withdraw_at.new.pass
-      c.args.pass.now.seat.me.0 _ c.requires.can.caller (sees_self c.args.pass.now.seat.me.0) c.if-withdraw_at.ensures.done,
+      (seen_by c.args.pass.now) _ c.requires.can.caller (sees_self (seen_by c.args.pass.now)) c.if-withdraw_at.ensures.done,
   refl,
 )
 

@@ -1,7 +1,7 @@
 use Rattle.std.proofs.Common.{◌≡◌, ap, ⊎_elim, arith}
 use Rattle.channel_model.specs.declared.acts.Kind.{Kind}
 use Rattle.channel_model.specs.Channels.{kind_at, suspends}
-use Rattle.cell_words.specs.Hubs.{shape_of}
+use Rattle.cell_words.specs.Hubs.{shape_of, seen_by}
 use Rattle.cell_words.proofs.CountsOfDecided.{decided_walked}
 use Rattle.cell_words.proofs.KeptBehind.{waits_keeps}
 use Rattle.cell_words.proofs.LooksAtCells.{hub_legal, sees_then, below_seen}
@@ -28,15 +28,15 @@ loop-place-init c =
     let h = c.decided_up_to-known.ensures in
     let b = c.begun_at-begun.ensures in
     let shape = shape_of c.args.hub.now in
-    let v = c.decided_up_to-known.new.pass.seat.me.0 in
+    let v = seen_by c.decided_up_to-known.new.pass in
     let l = hub_legal c.args.hub.now c.decided_up_to-known.new.pass h.own.0 in
     record {
       own = h.own;
       sees = sees_self v;
       walked = decided_walked shape c.args.c c.args.low v.seen l (waits_keeps (kind_at shape c.args.c)
           (ap (λ (k : Kind). suspends k) c.requires.kind))
-          (below_seen shape 0 c.args.low c.args.c c.args.pass.now.seat.me.0 v h.sees l c.requires.low) _ _ _ b.low.0 b.low.1
-          (b.decided v.seen c.args.c h.decided);
+          (below_seen shape 0 c.args.low c.args.c (seen_by c.args.pass.now) v h.sees l c.requires.low) _ _ _ b.low.0 b.low.1
+          (b.decided shape v.seen c.args.c h.decided);
       least = b.low.1;
       few = b.low.2;
     }
@@ -54,14 +54,14 @@ pub returns-then-stands_at-clause-search : goal.returns-then-stands_at-clause-se
 returns-then-stands_at-clause-search c =
     let i = c.loop-place.invariant in
     let shape = shape_of c.args.hub.now in
-    let u = c.args.pass.now.seat.me.0 in
-    let v = c.loop-place.pass.seat.me.0 in
-    let w = c.stands_at.new.pass.seat.me.0 in
+    let u = seen_by c.args.pass.now in
+    let v = seen_by c.loop-place.pass in
+    let w = seen_by c.stands_at.new.pass in
     let few = i.walked.few in
     let some = c.requires.some in
     let is = c.if-count-most.true in
     search_told shape c.args.who c.args.c c.args.low c.loop-place.place c.loop-place.count c.args.mark u v w
-    (sees_then u c.decided_up_to-known.new.pass.seat.me.0 v c.decided_up_to-known.ensures.sees i.sees) c.stands_at.ensures.sees
+    (sees_then u (seen_by c.decided_up_to-known.new.pass) v c.decided_up_to-known.ensures.sees i.sees) c.stands_at.ensures.sees
     (hub_legal c.args.hub.now c.loop-place.pass i.own.0) (hub_legal c.args.hub.now c.stands_at.new.pass c.stands_at.ensures.own.0)
     i.walked (omega arith)
     (full_by shape c.args.c c.args.most c.loop-place.count c.requires.kind c.if-count-most.true)
@@ -71,9 +71,9 @@ pub returns-then-count-most-clause-search : goal.returns-then-count-most-clause-
 returns-then-count-most-clause-search c =
     let i = c.loop-place.invariant in
     let shape = shape_of c.args.hub.now in
-    let u = c.args.pass.now.seat.me.0 in
-    let v = c.loop-place.pass.seat.me.0 in
-    let w = c.stands_at.new.pass.seat.me.0 in
+    let u = seen_by c.args.pass.now in
+    let v = seen_by c.loop-place.pass in
+    let w = seen_by c.stands_at.new.pass in
     let l = hub_legal c.args.hub.now c.stands_at.new.pass c.stands_at.ensures.own.0 in
     let walked = walked_seen shape c.args.c c.args.low c.loop-place.place c.loop-place.count (ap (λ (k : Kind). suspends k) c.requires.kind)
     v w c.stands_at.ensures.sees (hub_legal c.args.hub.now c.loop-place.pass i.own.0) l i.walked in
@@ -81,7 +81,7 @@ returns-then-count-most-clause-search c =
     let given = walked.given in
     let some = c.requires.some in
     let is = c.if-count-most.true in (
-      sees_then u v w (sees_then u c.decided_up_to-known.new.pass.seat.me.0 v c.decided_up_to-known.ensures.sees i.sees)
+      sees_then u v w (sees_then u (seen_by c.decided_up_to-known.new.pass) v c.decided_up_to-known.ensures.sees i.sees)
           c.stands_at.ensures.sees,
       passed_low shape c.args.c c.args.low w.seen l walked.below (omega arith) (rw c.if-stands_at.false at c.stands_at.ensures.stands),
     )
@@ -90,7 +90,7 @@ pub admit_here-requires-clause-at : goal.admit_here-requires-clause-at
 admit_here-requires-clause-at c =
     let i = c.loop-place.invariant in (
       c.requires.at.0,
-      within_places (shape_of c.args.hub.now) c.args.c c.loop-place.place c.loop-place.pass.seat.me.0.seen
+      within_places (shape_of c.args.hub.now) c.args.c c.loop-place.place (seen_by c.loop-place.pass).seen
           (hub_legal c.args.hub.now c.loop-place.pass i.own.0) i.walked.given,
     )
 
@@ -106,13 +106,13 @@ pub returns-in-End-clause-search : goal.returns-in-End-clause-search
 returns-in-End-clause-search c =
     let i = c.loop-place.invariant in
     let shape = shape_of c.args.hub.now in
-    let u = c.args.pass.now.seat.me.0 in
-    let v = c.loop-place.pass.seat.me.0 in
-    let w = c.admit_here.new.pass.seat.me.0 in
+    let u = seen_by c.args.pass.now in
+    let v = seen_by c.loop-place.pass in
+    let w = seen_by c.admit_here.new.pass in
     let t = c.in-End.ensures.here in
     let l = hub_legal c.args.hub.now c.admit_here.new.pass c.admit_here.ensures.own.0 in
     nothing_now shape c.args.c c.args.mark u w (sees_then u v w
-    (sees_then u c.decided_up_to-known.new.pass.seat.me.0 v c.decided_up_to-known.ensures.sees i.sees) t.0)
+    (sees_then u (seen_by c.decided_up_to-known.new.pass) v c.decided_up_to-known.ensures.sees i.sees) t.0)
     (all_given shape c.args.c c.args.low c.loop-place.place c.loop-place.count c.args.mark w.seen l
     (walked_seen shape c.args.c c.args.low c.loop-place.place c.loop-place.count (ap (λ (k : Kind). suspends k) c.requires.kind) v w t.0
     (hub_legal c.args.hub.now c.loop-place.pass i.own.0) l i.walked) t.1)
@@ -120,22 +120,22 @@ returns-in-End-clause-search c =
 pub returns-clause-search : goal.returns-clause-search
 returns-clause-search c =
     let i = c.loop-place.invariant in
-    nothing_now (shape_of c.args.hub.now) c.args.c c.args.mark c.args.pass.now.seat.me.0 c.loop-place.pass.seat.me.0
-    (sees_then c.args.pass.now.seat.me.0 c.decided_up_to-known.new.pass.seat.me.0 c.loop-place.pass.seat.me.0
+    nothing_now (shape_of c.args.hub.now) c.args.c c.args.mark (seen_by c.args.pass.now) (seen_by c.loop-place.pass)
+    (sees_then (seen_by c.args.pass.now) (seen_by c.decided_up_to-known.new.pass) (seen_by c.loop-place.pass)
     c.decided_up_to-known.ensures.sees
     i.sees)
     (all_passed (shape_of c.args.hub.now) c.args.c c.args.low c.loop-place.place c.loop-place.count c.args.mark
-    c.loop-place.pass.seat.me.0.seen (hub_legal c.args.hub.now c.loop-place.pass i.own.0) i.walked c.loop-place-test.false)
+    (seen_by c.loop-place.pass).seen (hub_legal c.args.hub.now c.loop-place.pass i.own.0) i.walked c.loop-place-test.false)
 
 pub admit_here-requires-clause-kind : goal.admit_here-requires-clause-kind
 admit_here-requires-clause-kind c = ap (λ (k : Kind). suspends k) c.requires.kind
 
 pub returns-in-Done-clause-search : goal.returns-in-Done-clause-search
 returns-in-Done-clause-search c =
-    let u = c.args.pass.now.seat.me.0 in
-    let e = c.decided_up_to-known.new.pass.seat.me.0 in
-    let v = c.loop-place.pass.seat.me.0 in (
-      admits_seen _ _ _ _ u v c.admit_here.new.pass.seat.me.0
+    let u = seen_by c.args.pass.now in
+    let e = seen_by c.decided_up_to-known.new.pass in
+    let v = seen_by c.loop-place.pass in (
+      admits_seen _ _ _ _ u v (seen_by c.admit_here.new.pass)
           (sees_then u e v c.decided_up_to-known.ensures.sees c.loop-place.invariant.sees)
           c.in-Done.ensures.here,
       c.loop-place-test.true,
@@ -145,9 +145,9 @@ pub loop-place-preserved : goal.loop-place-preserved
 loop-place-preserved c =
     let i = c.loop-place.invariant in
     let shape = shape_of c.args.hub.now in
-    let u = c.decided_up_to-known.new.pass.seat.me.0 in
-    let v = c.loop-place.pass.seat.me.0 in
-    let w = c.admit_here.new.pass.seat.me.0 in
+    let u = seen_by c.decided_up_to-known.new.pass in
+    let v = seen_by c.loop-place.pass in
+    let w = seen_by c.admit_here.new.pass in
     let lv = hub_legal c.args.hub.now c.loop-place.pass i.own.0 in
     let l = hub_legal c.args.hub.now c.admit_here.new.pass c.admit_here.ensures.own.0 in
     let more = less_than c.loop-place.count c.args.most i.few c.if-count-most.false in

@@ -1,5 +1,5 @@
 use Rattle.std.proofs.Common.{sym, ◌∙◌, refl, arith}
-use Rattle.cell_words.specs.Hubs.{shape_of}
+use Rattle.cell_words.specs.Hubs.{shape_of, seen_by}
 use Rattle.cell_words.proofs.OneNumberOneWord.{number_within}
 use Rattle.cell_words.proofs.ExchangesTell.{turned_as, not_turned}
 use Rattle.cell_words.proofs.WordsFound.{numbered_wait, numbered_wait_some}
@@ -11,22 +11,22 @@ exchange_word-found-requires-clause-word c = let i = c.requires.number
 
 pub returns-then-found-number-clause-told : goal.returns-then-found-number-clause-told
 returns-then-found-number-clause-told c =
-    turned_as (shape_of c.args.hub.now) _ _ c.exchange_word-found.result _ _ c.args.entry.now c.args.pass.now.seat.me.0
-    c.exchange_word-found.new.pass.seat.me.0 refl c.pack-number.ensures c.exchange_word-found.ensures.told c.if-found-number.true
+    turned_as (shape_of c.args.hub.now) _ _ c.exchange_word-found.result _ _ c.args.entry.now (seen_by c.args.pass.now)
+    (seen_by c.exchange_word-found.new.pass) refl c.pack-number.ensures c.exchange_word-found.ensures.told c.if-found-number.true
 
 pub unreachable-requires : goal.unreachable-requires
 unreachable-requires c =
-    let h = not_turned (shape_of c.args.hub.now) _ _ c.exchange_word-found.result c.args.entry.now c.args.pass.now.seat.me.0
-    c.exchange_word-found.new.pass.seat.me.0 c.exchange_word-found.ensures.told c.if-found-number.false in
-    numbered_wait_some (shape_of c.args.hub.now) c.exchange_word-found.new.pass.seat.me.0.seen c.exchange_word-found.result c.args.cell
+    let h = not_turned (shape_of c.args.hub.now) _ _ c.exchange_word-found.result c.args.entry.now (seen_by c.args.pass.now)
+    (seen_by c.exchange_word-found.new.pass) c.exchange_word-found.ensures.told c.if-found-number.false in
+    numbered_wait_some (shape_of c.args.hub.now) (seen_by c.exchange_word-found.new.pass).seen c.exchange_word-found.result c.args.cell
     c.requires.number h.1 c.in-None.ensures
 
 pub returns-clause-told : goal.returns-clause-told
 returns-clause-told c =
-    let h = not_turned (shape_of c.args.hub.now) _ _ c.exchange_word-found.result c.args.entry.now c.args.pass.now.seat.me.0
-    c.exchange_word-found.new.pass.seat.me.0 c.exchange_word-found.ensures.told c.if-found-number.false in (
+    let h = not_turned (shape_of c.args.hub.now) _ _ c.exchange_word-found.result c.args.entry.now (seen_by c.args.pass.now)
+    (seen_by c.exchange_word-found.new.pass) c.exchange_word-found.ensures.told c.if-found-number.false in (
       h.0,
-      numbered_wait (shape_of c.args.hub.now) c.exchange_word-found.new.pass.seat.me.0.seen c.exchange_word-found.result c.args.cell h.1
+      numbered_wait (shape_of c.args.hub.now) (seen_by c.exchange_word-found.new.pass).seen c.exchange_word-found.result c.args.cell h.1
           c.in-Some.word c.in-Some.ensures.0 c.in-Some.ensures.1,
       λ e. c.if-found-number.false (sym c.in-Some.ensures.0 ∙ e ∙ sym c.pack-number.ensures),
     )

@@ -1,5 +1,5 @@
 use Rattle.std.proofs.Common.{sym}
-use Rattle.cell_words.specs.Cells.{spot}
+use Rattle.word_rules.specs.Cells.{spot}
 use Rattle.cell_words.proofs.cells.load_cell.Goals as goal
 
 pub load_numbered_cell-requires-clause-number : goal.load_numbered_cell-requires-clause-number

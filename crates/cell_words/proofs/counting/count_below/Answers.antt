@@ -1,7 +1,7 @@
 use Rattle.std.proofs.Common.{◌-◌, true, sym, subst, arith}
 use Rattle.channel_model.specs.Channels.{kind_at}
 use Rattle.channel_model.specs.Laws.{NoneBelow}
-use Rattle.cell_words.specs.Hubs.{shape_of}
+use Rattle.cell_words.specs.Hubs.{shape_of, seen_by}
 use Rattle.cell_words.specs.Seen.{Seen, Sees, at_channel}
 use Rattle.cell_words.proofs.KeptBehind.{waits_keeps}
 use Rattle.cell_words.proofs.LooksAtCells.{hub_legal, sees_then, given_seen, below_seen}
@@ -14,27 +14,27 @@ pub loop-low-init : goal.loop-low-init
 loop-low-init c =
     let o = c.offers_from-from.ensures in
     let h = c.kept_run-run.ensures in
-    let v = c.kept_run-run.new.pass.seat.me.0 in
+    let v = seen_by c.kept_run-run.new.pass in
     record {
       own = h.own;
       sees = sees_self v;
-      low = below_seen (shape_of c.args.hub.now) 0 _ c.args.c c.offers_from-from.new.pass.seat.me.0 v h.sees
+      low = below_seen (shape_of c.args.hub.now) 0 _ c.args.c (seen_by c.offers_from-from.new.pass) v h.sees
           (hub_legal c.args.hub.now c.kept_run-run.new.pass h.own.0) o.low;
       run = h.kept;
     }
 
 pub returns-then-end-low-clause-sees : goal.returns-then-end-low-clause-sees
 returns-then-end-low-clause-sees c =
-    let u = c.args.pass.now.seat.me.0 in
-    let a = c.offers_from-from.new.pass.seat.me.0 in
-    let b = c.kept_run-run.new.pass.seat.me.0 in
-    sees_then u b c.loop-low.pass.seat.me.0 (sees_then u a b c.offers_from-from.ensures.sees c.kept_run-run.ensures.sees)
+    let u = seen_by c.args.pass.now in
+    let a = seen_by c.offers_from-from.new.pass in
+    let b = seen_by c.kept_run-run.new.pass in
+    sees_then u b (seen_by c.loop-low.pass) (sees_then u a b c.offers_from-from.ensures.sees c.kept_run-run.ensures.sees)
     c.loop-low.invariant.sees
 
 pub returns-then-end-low-clause-count : goal.returns-then-end-low-clause-count
 returns-then-end-low-clause-count c =
     let i = c.loop-low.invariant in
-    let v = c.loop-low.pass.seat.me.0 in
+    let v = seen_by c.loop-low.pass in
     let inside = c.loop-low-test.true in
     let f = few_from (shape_of c.args.hub.now) c.args.c c.loop-low.low v.seen (hub_legal c.args.hub.now c.loop-low.pass i.own.0) i.low
     (c.args.end - c.loop-low.low) c.args.end (omega arith) in
@@ -44,10 +44,10 @@ returns-then-end-low-clause-count c =
 pub stands_at-requires-clause-given : goal.stands_at-requires-clause-given
 stands_at-requires-clause-given c =
     let i = c.loop-low.invariant in
-    let u = c.args.pass.now.seat.me.0 in
-    let a = c.offers_from-from.new.pass.seat.me.0 in
-    let b = c.kept_run-run.new.pass.seat.me.0 in
-    let v = c.loop-low.pass.seat.me.0 in
+    let u = seen_by c.args.pass.now in
+    let a = seen_by c.offers_from-from.new.pass in
+    let b = seen_by c.kept_run-run.new.pass in
+    let v = seen_by c.loop-low.pass in
     let s = sees_then u b v (sees_then u a b c.offers_from-from.ensures.sees c.kept_run-run.ensures.sees) i.sees in
     let g = given_seen (shape_of c.args.hub.now) c.args.end c.args.c u v s (hub_legal c.args.hub.now c.loop-low.pass i.own.0)
     c.requires.given in
@@ -55,27 +55,27 @@ stands_at-requires-clause-given c =
 
 pub returns-then-has_from-clause-sees : goal.returns-then-has_from-clause-sees
 returns-then-has_from-clause-sees c =
-    let u = c.args.pass.now.seat.me.0 in
-    let a = c.offers_from-from.new.pass.seat.me.0 in
-    let b = c.kept_run-run.new.pass.seat.me.0 in
-    let v = c.loop-low.pass.seat.me.0 in
-    sees_then u v c.raise_receives.new.pass.seat.me.0 (sees_then u b v
+    let u = seen_by c.args.pass.now in
+    let a = seen_by c.offers_from-from.new.pass in
+    let b = seen_by c.kept_run-run.new.pass in
+    let v = seen_by c.loop-low.pass in
+    sees_then u v (seen_by c.raise_receives.new.pass) (sees_then u b v
     (sees_then u a b c.offers_from-from.ensures.sees c.kept_run-run.ensures.sees) c.loop-low.invariant.sees)
-    (subst (λ (z : Seen). Sees c.loop-low.pass.seat.me.0 z) (sym c.raise_receives.ensures.same)
+    (subst (λ (z : Seen). Sees (seen_by c.loop-low.pass) z) (sym c.raise_receives.ensures.same)
     c.stands_at.ensures.sees)
 
 pub returns-then-has_from-clause-count : goal.returns-then-has_from-clause-count
 returns-then-has_from-clause-count c =
     let shape = shape_of c.args.hub.now in
     let i = c.loop-low.invariant in
-    let u = c.args.pass.now.seat.me.0 in
-    let a = c.offers_from-from.new.pass.seat.me.0 in
-    let b = c.kept_run-run.new.pass.seat.me.0 in
-    let v = c.loop-low.pass.seat.me.0 in
+    let u = seen_by c.args.pass.now in
+    let a = seen_by c.offers_from-from.new.pass in
+    let b = seen_by c.kept_run-run.new.pass in
+    let v = seen_by c.loop-low.pass in
     let s = sees_then u b v (sees_then u a b c.offers_from-from.ensures.sees c.kept_run-run.ensures.sees) i.sees in
     let l = hub_legal c.args.hub.now c.loop-low.pass i.own.0 in
     let r = rw c.if-has_from.true at c.has_from.ensures in
-    count_before shape c.args.c c.args.end c.args.most u v c.stands_at.new.pass.seat.me.0 s
+    count_before shape c.args.c c.args.end c.args.most u v (seen_by c.stands_at.new.pass) s
     (hub_legal c.args.hub.now c.args.pass.now c.requires.own.0) l c.requires.given true
     (run_stands shape c.args.c c.loop-low.low _ _ (waits_keeps (kind_at shape c.args.c) c.requires.kind) v.seen l i.low i.run c.args.most
     c.args.end r.0 r.1
@@ -83,50 +83,50 @@ returns-then-has_from-clause-count c =
 
 pub count_decided-requires-clause-given : goal.count_decided-requires-clause-given
 count_decided-requires-clause-given c =
-    let u = c.args.pass.now.seat.me.0 in
-    let a = c.offers_from-from.new.pass.seat.me.0 in
-    let b = c.kept_run-run.new.pass.seat.me.0 in
-    let v = c.loop-low.pass.seat.me.0 in
-    let w = c.raise_receives.new.pass.seat.me.0 in
+    let u = seen_by c.args.pass.now in
+    let a = seen_by c.offers_from-from.new.pass in
+    let b = seen_by c.kept_run-run.new.pass in
+    let v = seen_by c.loop-low.pass in
+    let w = seen_by c.raise_receives.new.pass in
     given_seen (shape_of c.args.hub.now) c.args.end c.args.c u w
     (sees_then u v w (sees_then u b v (sees_then u a b c.offers_from-from.ensures.sees c.kept_run-run.ensures.sees)
-    c.loop-low.invariant.sees) (subst (λ (z : Seen). Sees c.loop-low.pass.seat.me.0 z) (sym c.raise_receives.ensures.same)
+    c.loop-low.invariant.sees) (subst (λ (z : Seen). Sees (seen_by c.loop-low.pass) z) (sym c.raise_receives.ensures.same)
     c.stands_at.ensures.sees))
     (hub_legal c.args.hub.now c.raise_receives.new.pass c.raise_receives.ensures.own.0) c.requires.given
 
 pub raise_receives-requires-clause-low : goal.raise_receives-requires-clause-low
 raise_receives-requires-clause-low c =
-    below_seen (shape_of c.args.hub.now) 0 c.loop-low.low c.args.c c.loop-low.pass.seat.me.0 c.stands_at.new.pass.seat.me.0
+    below_seen (shape_of c.args.hub.now) 0 c.loop-low.low c.args.c (seen_by c.loop-low.pass) (seen_by c.stands_at.new.pass)
     c.stands_at.ensures.sees (hub_legal c.args.hub.now c.stands_at.new.pass c.stands_at.ensures.own.0) c.loop-low.invariant.low
 
 pub count_decided-requires-clause-low : goal.count_decided-requires-clause-low
 count_decided-requires-clause-low c =
     subst (λ (z : Seen). NoneBelow 0 c.loop-low.low (at_channel z.seen c.args.c)) (sym c.raise_receives.ensures.same)
-    (below_seen (shape_of c.args.hub.now) 0 c.loop-low.low c.args.c c.loop-low.pass.seat.me.0 c.stands_at.new.pass.seat.me.0
+    (below_seen (shape_of c.args.hub.now) 0 c.loop-low.low c.args.c (seen_by c.loop-low.pass) (seen_by c.stands_at.new.pass)
     c.stands_at.ensures.sees (hub_legal c.args.hub.now c.stands_at.new.pass c.stands_at.ensures.own.0) c.loop-low.invariant.low)
 
 pub returns-then-stands_at-clause-sees : goal.returns-then-stands_at-clause-sees
 returns-then-stands_at-clause-sees c =
-    let u = c.args.pass.now.seat.me.0 in
-    let a = c.offers_from-from.new.pass.seat.me.0 in
-    let b = c.kept_run-run.new.pass.seat.me.0 in
-    let v = c.loop-low.pass.seat.me.0 in
-    let w = c.raise_receives.new.pass.seat.me.0 in
-    sees_then u w c.count_decided.new.pass.seat.me.0 (sees_then u v w
+    let u = seen_by c.args.pass.now in
+    let a = seen_by c.offers_from-from.new.pass in
+    let b = seen_by c.kept_run-run.new.pass in
+    let v = seen_by c.loop-low.pass in
+    let w = seen_by c.raise_receives.new.pass in
+    sees_then u w (seen_by c.count_decided.new.pass) (sees_then u v w
     (sees_then u b v (sees_then u a b c.offers_from-from.ensures.sees c.kept_run-run.ensures.sees) c.loop-low.invariant.sees)
-    (subst (λ (z : Seen). Sees c.loop-low.pass.seat.me.0 z) (sym c.raise_receives.ensures.same)
+    (subst (λ (z : Seen). Sees (seen_by c.loop-low.pass) z) (sym c.raise_receives.ensures.same)
     c.stands_at.ensures.sees)) c.count_decided.ensures.sees
 
 pub returns-then-stands_at-clause-count : goal.returns-then-stands_at-clause-count
 returns-then-stands_at-clause-count c =
-    let u = c.args.pass.now.seat.me.0 in
-    let a = c.offers_from-from.new.pass.seat.me.0 in
-    let b = c.kept_run-run.new.pass.seat.me.0 in
-    let v = c.loop-low.pass.seat.me.0 in
-    let w = c.raise_receives.new.pass.seat.me.0 in
-    count_before (shape_of c.args.hub.now) c.args.c c.args.end c.args.most u w c.count_decided.new.pass.seat.me.0
+    let u = seen_by c.args.pass.now in
+    let a = seen_by c.offers_from-from.new.pass in
+    let b = seen_by c.kept_run-run.new.pass in
+    let v = seen_by c.loop-low.pass in
+    let w = seen_by c.raise_receives.new.pass in
+    count_before (shape_of c.args.hub.now) c.args.c c.args.end c.args.most u w (seen_by c.count_decided.new.pass)
     (sees_then u v w (sees_then u b v (sees_then u a b c.offers_from-from.ensures.sees c.kept_run-run.ensures.sees)
-    c.loop-low.invariant.sees) (subst (λ (z : Seen). Sees c.loop-low.pass.seat.me.0 z) (sym c.raise_receives.ensures.same)
+    c.loop-low.invariant.sees) (subst (λ (z : Seen). Sees (seen_by c.loop-low.pass) z) (sym c.raise_receives.ensures.same)
     c.stands_at.ensures.sees))
     (hub_legal c.args.hub.now c.args.pass.now c.requires.own.0)
     (hub_legal c.args.hub.now c.raise_receives.new.pass c.raise_receives.ensures.own.0)
@@ -134,16 +134,16 @@ returns-then-stands_at-clause-count c =
 
 pub returns-clause-sees : goal.returns-clause-sees
 returns-clause-sees c =
-    let u = c.args.pass.now.seat.me.0 in
-    let a = c.offers_from-from.new.pass.seat.me.0 in
-    let b = c.kept_run-run.new.pass.seat.me.0 in
-    sees_then u b c.loop-low.pass.seat.me.0 (sees_then u a b c.offers_from-from.ensures.sees c.kept_run-run.ensures.sees)
+    let u = seen_by c.args.pass.now in
+    let a = seen_by c.offers_from-from.new.pass in
+    let b = seen_by c.kept_run-run.new.pass in
+    sees_then u b (seen_by c.loop-low.pass) (sees_then u a b c.offers_from-from.ensures.sees c.kept_run-run.ensures.sees)
     c.loop-low.invariant.sees
 
 pub returns-clause-count : goal.returns-clause-count
 returns-clause-count c =
     let i = c.loop-low.invariant in
-    let v = c.loop-low.pass.seat.me.0 in
+    let v = seen_by c.loop-low.pass in
     none_counted c.args.most _ _
     (few_from (shape_of c.args.hub.now) c.args.c c.args.end v.seen (hub_legal c.args.hub.now c.loop-low.pass i.own.0)
     (fewer_below c.args.end c.loop-low.low (at_channel v.seen c.args.c) c.loop-low-test.false i.low) 0 c.args.end (omega arith))
@@ -153,11 +153,11 @@ loop-low-preserved c =
     let i = c.loop-low.invariant in
     let h = c.stands_at.ensures in
     let shape = shape_of c.args.hub.now in
-    let u = c.args.pass.now.seat.me.0 in
-    let a = c.offers_from-from.new.pass.seat.me.0 in
-    let b = c.kept_run-run.new.pass.seat.me.0 in
-    let v = c.loop-low.pass.seat.me.0 in
-    let w = c.stands_at.new.pass.seat.me.0 in
+    let u = seen_by c.args.pass.now in
+    let a = seen_by c.offers_from-from.new.pass in
+    let b = seen_by c.kept_run-run.new.pass in
+    let v = seen_by c.loop-low.pass in
+    let w = seen_by c.stands_at.new.pass in
     let l = hub_legal c.args.hub.now c.stands_at.new.pass h.own.0 in
     let s = sees_then u v w (sees_then u b v (sees_then u a b c.offers_from-from.ensures.sees c.kept_run-run.ensures.sees) i.sees) h.sees in
     let g = given_seen shape c.args.end c.args.c u w s l c.requires.given in
@@ -170,4 +170,4 @@ loop-low-preserved c =
     }
 
 pub returns-then-end-most-clause-count : goal.returns-then-end-most-clause-count
-returns-then-end-most-clause-count c = few_places c.args.c c.args.end c.args.most c.args.pass.now.seat.me.0 c.if-end-most.true
+returns-then-end-most-clause-count c = few_places c.args.c c.args.end c.args.most (seen_by c.args.pass.now) c.if-end-most.true

@@ -1,6 +1,6 @@
 use Rattle.std.proofs.Common.{◌<◌, ◌≤◌, ℕ, length, subst, arith}
-use Rattle.cell_words.specs.Cells.{gather}
-use Rattle.cell_words.specs.Hubs.{shape_of}
+use Rattle.word_rules.specs.Cells.{gather}
+use Rattle.cell_words.specs.Hubs.{shape_of, seen_by}
 use Rattle.cell_words.specs.Seen.{at_channel}
 use Rattle.cell_words.specs.Answers.{stands}
 use Rattle.cell_words.proofs.LooksAtCells.{hub_legal, sees_then, given_seen}
@@ -10,17 +10,17 @@ use Rattle.cell_words.proofs.counting.count_from.Goals.{then-stands_at, else-sta
 use Rattle.cell_words.proofs.counting.count_from.Goals as goal
 
 pub returns-then-count-most-clause-count : goal.returns-then-count-most-clause-count
-returns-then-count-most-clause-count c = subst (λ (n : ℕ). n ≤ length (gather (stands c.args.pass.now.seat.me.0.seen c.args.c) c.args.end))
-    c.if-count-most.true (lower_end c.args.c c.loop-place.place c.args.end c.loop-place.count c.args.pass.now.seat.me.0
-    c.loop-place.pass.seat.me.0 (c.loop-place.auto.place-end c.requires.from) c.loop-place.invariant.counted)
+returns-then-count-most-clause-count c = subst (λ (n : ℕ). n ≤ length (gather (stands (seen_by c.args.pass.now).seen c.args.c) c.args.end))
+    c.if-count-most.true (lower_end c.args.c c.loop-place.place c.args.end c.loop-place.count (seen_by c.args.pass.now)
+    (seen_by c.loop-place.pass) (c.loop-place.auto.place-end c.requires.from) c.loop-place.invariant.counted)
 
 pub loop-place-preserved : goal.loop-place-preserved
 loop-place-preserved c =
     let i = c.loop-place.invariant in
     let h = c.stands_at.ensures in
-    let u = c.args.pass.now.seat.me.0 in
-    let v = c.loop-place.pass.seat.me.0 in
-    let w = c.stands_at.new.pass.seat.me.0 in
+    let u = seen_by c.args.pass.now in
+    let v = seen_by c.loop-place.pass in
+    let w = seen_by c.stands_at.new.pass in
     let shape = shape_of c.args.hub.now in
     let lu = hub_legal c.args.hub.now c.args.pass.now c.requires.own.0 in
     let lv = hub_legal c.args.hub.now c.loop-place.pass i.own.0 in
@@ -47,13 +47,13 @@ loop-place-preserved c =
 
 pub returns-clause-count : goal.returns-clause-count
 returns-clause-count c = count_end c.args.most c.loop-place.count _ _
-    (lower_end c.args.c c.loop-place.place c.args.end c.loop-place.count c.args.pass.now.seat.me.0 c.loop-place.pass.seat.me.0
+    (lower_end c.args.c c.loop-place.place c.args.end c.loop-place.count (seen_by c.args.pass.now) (seen_by c.loop-place.pass)
     (c.loop-place.auto.place-end c.requires.from) c.loop-place.invariant.counted)
-    (upper_end c.args.c c.loop-place.place c.args.end c.loop-place.count c.args.pass.now.seat.me.0 c.loop-place.pass.seat.me.0
+    (upper_end c.args.c c.loop-place.place c.args.end c.loop-place.count (seen_by c.args.pass.now) (seen_by c.loop-place.pass)
     (c.loop-place.auto.place-end c.requires.from) c.loop-place-test.false c.loop-place.invariant.counted)
 
 pub loop-place-init : goal.loop-place-init
-loop-place-init c = let u = c.args.pass.now.seat.me.0 in record {
+loop-place-init c = let u = seen_by c.args.pass.now in record {
   own = c.requires.own;
   sees = sees_self u;
   given = c.requires.given;
@@ -64,5 +64,5 @@ loop-place-init c = let u = c.args.pass.now.seat.me.0 in record {
 
 pub returns-then-end-place-clause-count : goal.returns-then-end-place-clause-count
 returns-then-end-place-clause-count c = too_few c.args.c c.loop-place.place c.args.end c.loop-place.count c.args.most
-    c.args.pass.now.seat.me.0 c.loop-place.pass.seat.me.0 (c.loop-place.auto.place-end c.requires.from) c.loop-place.invariant.few
+    (seen_by c.args.pass.now) (seen_by c.loop-place.pass) (c.loop-place.auto.place-end c.requires.from) c.loop-place.invariant.few
     c.if-end-place.true c.loop-place.invariant.counted

@@ -1,6 +1,6 @@
 use Rattle.std.proofs.Common.{ℕ, ◌+◌, sym, subst, arith}
-use Rattle.cell_words.specs.Hubs.{shape_of}
-use Rattle.cell_words.specs.Words.{WereDecided}
+use Rattle.cell_words.specs.Hubs.{shape_of, seen_by}
+use Rattle.word_rules.specs.Words.{WereDecided}
 use Rattle.cell_words.proofs.LooksAtCells.{hub_legal, sees_then}
 use Rattle.cell_words.proofs.WalksToAdmit.{sees_self}
 use Rattle.cell_words.proofs.CountsOfDecided.{decided_seen, decided_longer}
@@ -9,7 +9,7 @@ use Rattle.cell_words.proofs.decided.go_on.Goals as goal
 pub loop-place-init : goal.loop-place-init
 loop-place-init c = record {
   own = c.requires.own;
-  sees = sees_self c.args.pass.now.seat.me.0;
+  sees = sees_self (seen_by c.args.pass.now);
   least = omega arith;
   decided = c.requires.decided;
 }
@@ -19,25 +19,26 @@ loop-place-preserved c =
     let shape = shape_of c.args.hub.now in
     let i = c.loop-place.invariant in
     let h = c.fate_at-fate.ensures in
-    let v = c.loop-place.pass.seat.me.0 in
-    let w = c.fate_at-fate.new.pass.seat.me.0 in
+    let v = seen_by c.loop-place.pass in
+    let w = seen_by c.fate_at-fate.new.pass in
     let l = hub_legal c.args.hub.now c.fate_at-fate.new.pass h.own.0 in
     record {
       own = h.own;
-      sees = sees_then c.args.pass.now.seat.me.0 v w i.sees h.sees;
+      sees = sees_then (seen_by c.args.pass.now) v w i.sees h.sees;
       least = omega (arith, i.least);
-      decided = subst (λ (n : ℕ). WereDecided w.seen c.args.c c.args.known.from (c.loop-place.place + 1) n) (sym c.more_one-count.ensures)
-          (decided_longer w.seen c.args.c c.args.known.from c.loop-place.place c.loop-place.count c.in-Some.kept i.least
+      decided = subst (λ (n : ℕ). WereDecided shape w.seen c.args.c c.args.known.from (c.loop-place.place + 1) n)
+          (sym c.more_one-count.ensures)
+          (decided_longer shape w.seen c.args.c c.args.known.from c.loop-place.place c.loop-place.count c.in-Some.kept i.least
           (decided_seen shape c.args.c _ _ _ v w h.sees l i.decided) (h.fate c.in-Some.kept c.in-Some.is));
     }
 
 pub returns-in-None-clause-sees : goal.returns-in-None-clause-sees
-returns-in-None-clause-sees c = sees_then c.args.pass.now.seat.me.0 c.loop-place.pass.seat.me.0 c.fate_at-fate.new.pass.seat.me.0
+returns-in-None-clause-sees c = sees_then (seen_by c.args.pass.now) (seen_by c.loop-place.pass) (seen_by c.fate_at-fate.new.pass)
     c.loop-place.invariant.sees c.fate_at-fate.ensures.sees
 
 pub returns-in-None-clause-decided : goal.returns-in-None-clause-decided
-returns-in-None-clause-decided c = decided_seen (shape_of c.args.hub.now) c.args.c _ _ _ c.loop-place.pass.seat.me.0
-    c.fate_at-fate.new.pass.seat.me.0 c.fate_at-fate.ensures.sees
+returns-in-None-clause-decided c = decided_seen (shape_of c.args.hub.now) c.args.c _ _ _ (seen_by c.loop-place.pass)
+    (seen_by c.fate_at-fate.new.pass) c.fate_at-fate.ensures.sees
     (hub_legal c.args.hub.now c.fate_at-fate.new.pass c.fate_at-fate.ensures.own.0) c.loop-place.invariant.decided
 
 pub returns-then-count-ge2097151-clause-sees : goal.returns-then-count-ge2097151-clause-sees
@@ -51,5 +52,6 @@ returns-clause-sees c = c.loop-place.invariant.sees
 
 pub returns-clause-decided : goal.returns-clause-decided
 returns-clause-decided c =
-    subst (λ (z : ℕ). WereDecided c.loop-place.pass.seat.me.0.seen c.args.c c.args.known.from z c.loop-place.count)
+    subst (λ (z : ℕ). WereDecided (shape_of c.args.hub.now) (seen_by c.loop-place.pass).seen c.args.c c.args.known.from z
+    c.loop-place.count)
     (omega (arith, c.loop-place-test.false, c.loop-place.auto.place-end)) c.loop-place.invariant.decided

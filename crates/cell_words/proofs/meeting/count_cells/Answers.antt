@@ -1,5 +1,5 @@
 use Rattle.std.proofs.Common.{◌+◌, ◌≡◌, ap, sym, ◌∙◌, arith}
-use Rattle.cell_words.specs.Words.{base}
+use Rattle.word_rules.specs.Words.{base}
 use Rattle.cell_words.proofs.NewHubs.{base_start, base_step, base_below, base_all}
 use Rattle.cell_words.proofs.meeting.count_cells.Goals as goal
 

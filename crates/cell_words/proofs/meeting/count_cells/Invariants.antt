@@ -1,5 +1,5 @@
 use Rattle.std.proofs.Common.{◌≡◌}
-use Rattle.cell_words.specs.Words.{base}
+use Rattle.word_rules.specs.Words.{base}
 use Rattle.cell_words.proofs.meeting.count_cells.Given as goal
 
 abbrev pub invariant-loop-i : goal.invariant-loop-i

@@ -1,5 +1,5 @@
 use Rattle.std.proofs.Common.{◌≡◌}
-use Rattle.cell_words.specs.Words.{base}
+use Rattle.word_rules.specs.Words.{base}
 use Rattle.cell_words.specs.Sizes.{AreFirsts}
 use Rattle.cell_words.proofs.meeting.first_cells.Given as goal
 

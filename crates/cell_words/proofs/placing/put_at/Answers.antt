@@ -1,8 +1,8 @@
 use Rattle.std.proofs.Common.{sym, ap, refl, subst}
-use Rattle.cell_words.specs.declared.cell_word.CellWord.{CellWord}
+use Rattle.word_rules.specs.declared.cell_word.CellWord.{CellWord}
 use Rattle.cell_words.specs.declared.found.At.{At}
-use Rattle.cell_words.specs.Codes.{packed_cell}
-use Rattle.cell_words.specs.Hubs.{shape_of}
+use Rattle.word_rules.specs.Codes.{packed_cell}
+use Rattle.cell_words.specs.Hubs.{shape_of, seen_by}
 use Rattle.cell_words.specs.Answers.{OfferAt}
 use Rattle.cell_words.proofs.MayExchange.{may_as, puts}
 use Rattle.cell_words.proofs.LooksAtCells.{hub_legal, missed_offer}
@@ -11,14 +11,14 @@ use Rattle.cell_words.proofs.placing.put_at.Goals as goal
 pub exchange_cell-requires-clause-may : goal.exchange_cell-requires-clause-may
 exchange_cell-requires-clause-may c =
     let shape = shape_of c.args.hub.now in
-    may_as shape _ _ _ _ _ _ _ c.args.pass.now.seat.me.0 refl c.free_cell.ensures.zero
+    may_as shape _ _ _ _ _ _ _ (seen_by c.args.pass.now) refl c.free_cell.ensures.zero
     (ap (λ (z : CellWord). packed_cell z) c.plain_cell-new.ensures.word)
-    (puts shape c.args.pass.now.seat.me.0 c.args.who c.args.c c.args.place c.requires.own.1 c.requires.at.0 c.args.value c.requires.at.1
+    (puts shape (seen_by c.args.pass.now) c.args.who c.args.c c.args.place c.requires.own.1 c.requires.at.0 c.args.value c.requires.at.1
     c.ranges.value.fits c.requires.low (hub_legal c.args.hub.now c.args.pass.now c.requires.own.0) c.requires.room)
 
 pub returns-in-Some-clause-at : goal.returns-in-Some-clause-at
 returns-in-Some-clause-at c = let t = c.in-Some.ensures.told in
-    subst (λ (z : At). OfferAt (shape_of c.args.hub.now) c.args.who c.args.c c.args.place c.args.value c.args.pass.now.seat.me.0
-    c.exchange_cell.new.pass.seat.me.0 z) (sym c.found_by_sender.ensures)
-    (missed_offer c.args.hub.now c.exchange_cell.new.pass c.exchange_cell.ensures.own.0 c.args.c c.args.place c.args.pass.now.seat.me.0
+    subst (λ (z : At). OfferAt (shape_of c.args.hub.now) c.args.who c.args.c c.args.place c.args.value (seen_by c.args.pass.now)
+    (seen_by c.exchange_cell.new.pass) z) (sym c.found_by_sender.ensures)
+    (missed_offer c.args.hub.now c.exchange_cell.new.pass c.exchange_cell.ensures.own.0 c.args.c c.args.place (seen_by c.args.pass.now)
     t.0 c.in-Some.found t.1 c.requires.low _ c.free_cell.ensures.zero t.2 c.args.who c.args.value)

@@ -1,6 +1,6 @@
 use Rattle.std.proofs.Common.{sym, ◌∙◌, subst}
 use Rattle.cell_words.specs.declared.found.At.{At}
-use Rattle.cell_words.specs.Hubs.{shape_of}
+use Rattle.cell_words.specs.Hubs.{shape_of, seen_by}
 use Rattle.cell_words.specs.Clauses.{ClauseOfferAt}
 use Rattle.cell_words.proofs.LooksAtCells.{hub_legal, used_offer, spent_offer, unused_free, below_seen, less_places, state_free}
 use Rattle.cell_words.proofs.ClausesPlaced.{may_seen, elsewhere}
@@ -10,15 +10,15 @@ use Rattle.cell_words.proofs.registering.offer_clause_at.Goals as goal
 pub returns-then-is_used-clause-at : goal.returns-then-is_used-clause-at
 returns-then-is_used-clause-at c = let h = c.load_cell-word.ensures in
     subst (λ (z : At). ClauseOfferAt (shape_of c.args.hub.now) c.args.who c.args.c c.args.place c.args.main c.args.clause c.args.value
-    c.args.pass.now.seat.me.0 c.load_cell-word.new.pass.seat.me.0 z) (sym c.found_by_sender.ensures)
+    (seen_by c.args.pass.now) (seen_by c.load_cell-word.new.pass) z) (sym c.found_by_sender.ensures)
     (clause_offer_found (shape_of c.args.hub.now) c.args.who c.args.c c.args.place c.args.clause c.args.value c.args.main
-    c.load_cell-word.result c.load_cell-word.result.state c.args.pass.now.seat.me.0 c.load_cell-word.new.pass.seat.me.0
-    (used_offer c.args.hub.now c.load_cell-word.new.pass h.own.0 c.args.c c.args.place c.args.pass.now.seat.me.0 h.sees
+    c.load_cell-word.result c.load_cell-word.result.state (seen_by c.args.pass.now) (seen_by c.load_cell-word.new.pass)
+    (used_offer c.args.hub.now c.load_cell-word.new.pass h.own.0 c.args.c c.args.place (seen_by c.args.pass.now) h.sees
     c.load_cell-word.result h.word c.requires.low (sym c.is_used.ensures ∙ c.if-is_used.true) c.args.who c.args.value))
 
 pub returns-then-place-places_of-clause-at : goal.returns-then-place-places_of-clause-at
 returns-then-place-places_of-clause-at c = let h = c.load_cell-word.ensures in
-    spent_offer c.args.hub.now c.load_cell-word.new.pass h.own.0 c.args.c c.args.place c.args.pass.now.seat.me.0 h.sees
+    spent_offer c.args.hub.now c.load_cell-word.new.pass h.own.0 c.args.c c.args.place (seen_by c.args.pass.now) h.sees
     c.load_cell-word.result h.word c.requires.low (sym c.is_used.ensures ∙ c.if-is_used.false) (c.if-place-places_of.true
     ∙ c.places_of.ensures)
 
@@ -32,21 +32,21 @@ hold_clause_at-requires-clause-at c = (
 pub hold_clause_at-requires-clause-low : goal.hold_clause_at-requires-clause-low
 hold_clause_at-requires-clause-low c =
     let h = c.load_cell-word.ensures in
-    below_seen (shape_of c.args.hub.now) c.args.place 0 c.args.c c.args.pass.now.seat.me.0 c.load_cell-word.new.pass.seat.me.0 h.sees
+    below_seen (shape_of c.args.hub.now) c.args.place 0 c.args.c (seen_by c.args.pass.now) (seen_by c.load_cell-word.new.pass) h.sees
     (hub_legal c.args.hub.now c.load_cell-word.new.pass h.own.0) c.requires.low
 
 pub hold_clause_at-requires-clause-may : goal.hold_clause_at-requires-clause-may
 hold_clause_at-requires-clause-may c =
     let h = c.load_cell-word.ensures in
-    may_seen (shape_of c.args.hub.now) c.args.who c.args.clause c.args.c c.args.main c.args.pass.now.seat.me.0
-    c.load_cell-word.new.pass.seat.me.0 c.requires.own.1 h.sees (hub_legal c.args.hub.now c.load_cell-word.new.pass h.own.0)
+    may_seen (shape_of c.args.hub.now) c.args.who c.args.clause c.args.c c.args.main (seen_by c.args.pass.now)
+    (seen_by c.load_cell-word.new.pass) c.requires.own.1 h.sees (hub_legal c.args.hub.now c.load_cell-word.new.pass h.own.0)
     c.requires.may
 
 pub hold_clause_at-requires-clause-apart : goal.hold_clause_at-requires-clause-apart
 hold_clause_at-requires-clause-apart c =
     let shape = shape_of c.args.hub.now in
-    let v = c.args.pass.now.seat.me.0 in
-    let w = c.load_cell-word.new.pass.seat.me.0 in
+    let v = seen_by c.args.pass.now in
+    let w = seen_by c.load_cell-word.new.pass in
     let h = c.load_cell-word.ensures in
     let l = hub_legal c.args.hub.now c.load_cell-word.new.pass h.own.0 in
     elsewhere shape c.args.who c.args.clause c.args.c c.args.place c.args.main w.seen l
@@ -57,5 +57,5 @@ hold_clause_at-requires-clause-apart c =
 
 pub returns-clause-at : goal.returns-clause-at
 returns-clause-at c = clause_offer_later (shape_of c.args.hub.now) c.args.who c.args.c c.args.place c.args.clause c.args.value c.args.main
-    c.args.pass.now.seat.me.0 c.load_cell-word.new.pass.seat.me.0 c.hold_clause_at.new.pass.seat.me.0 c.load_cell-word.ensures.sees
+    (seen_by c.args.pass.now) (seen_by c.load_cell-word.new.pass) (seen_by c.hold_clause_at.new.pass) c.load_cell-word.ensures.sees
     c.hold_clause_at.result c.hold_clause_at.ensures.at

@@ -1,4 +1,4 @@
-use Rattle.cell_words.specs.Hubs.{shape_of}
+use Rattle.cell_words.specs.Hubs.{shape_of, seen_by}
 use Rattle.cell_words.proofs.LooksAtCells.{hub_legal}
 use Rattle.cell_words.proofs.StandsAtPlaces.{receiver_told}
 use Rattle.cell_words.proofs.registering.receiver_stands.Goals as goal
@@ -11,8 +11,8 @@ pub returns-clause-stands : goal.returns-clause-stands
 returns-clause-stands c =
     let h = c.requires.first.held in
     let w = c.load_wait-word.ensures in
-    receiver_told (shape_of c.args.hub.now) c.args.c c.args.place c.args.waiter c.args.pass.now.seat.me.0
-    c.load_wait-word.new.pass.seat.me.0 (hub_legal c.args.hub.now c.load_wait-word.new.pass w.own.0) w.sees c.requires.low
+    receiver_told (shape_of c.args.hub.now) c.args.c c.args.place c.args.waiter (seen_by c.args.pass.now)
+    (seen_by c.load_wait-word.new.pass) (hub_legal c.args.hub.now c.load_wait-word.new.pass w.own.0) w.sees c.requires.low
     c.requires.first
     c.load_wait-word.result (w.word h.wait (h.fits.channel, h.fits.place) (c.wait_cell-cell.ensures h.who h.wait h.holder)).0
     c.is_nobody.result c.is_nobody.ensures

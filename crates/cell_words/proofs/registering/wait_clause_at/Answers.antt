@@ -1,11 +1,11 @@
 use Rattle.std.proofs.Common.{◌∙◌, sym, ap, refl, subst}
 use Rattle.co_base.specs.declared.names.WaitId.{WaitId}
 use Rattle.channel_model.specs.declared.acts.Act.TheVariants.{Await}
-use Rattle.cell_words.specs.declared.cell_word.CellState.TheVariants as cell
-use Rattle.cell_words.specs.declared.cell_word.CellWord.{CellWord}
+use Rattle.word_rules.specs.declared.cell_word.CellState.TheVariants as cell
+use Rattle.word_rules.specs.declared.cell_word.CellWord.{CellWord}
 use Rattle.cell_words.specs.declared.found.At.{At}
-use Rattle.cell_words.specs.Codes.{packed_cell}
-use Rattle.cell_words.specs.Hubs.{shape_of}
+use Rattle.word_rules.specs.Codes.{packed_cell}
+use Rattle.cell_words.specs.Hubs.{shape_of, seen_by}
 use Rattle.cell_words.specs.Seen.{Makes}
 use Rattle.cell_words.specs.Clauses.{ClauseReceiveAt}
 use Rattle.cell_words.proofs.MayExchange.{may_by}
@@ -16,32 +16,32 @@ use Rattle.cell_words.proofs.registering.wait_clause_at.Goals as goal
 
 pub clause_cell-new-requires-clause-clause : goal.clause_cell-new-requires-clause-clause
 clause_cell-new-requires-clause-clause c = clause_high (shape_of c.args.hub.now) c.args.who c.args.clause c.args.c c.args.main
-    c.args.pass.now.seat.me.0.seen c.requires.may
+    (seen_by c.args.pass.now).seen c.requires.may
 
 pub clause_cell-new-requires-clause-main : goal.clause_cell-new-requires-clause-main
 clause_cell-new-requires-clause-main c = main_cell (shape_of c.args.hub.now) c.args.who c.args.clause c.args.c c.args.main
-    c.args.pass.now.seat.me.0.seen c.requires.may
+    (seen_by c.args.pass.now).seen c.requires.may
 
 pub exchange_cell-requires-clause-may : goal.exchange_cell-requires-clause-may
 exchange_cell-requires-clause-may c =
     let shape = shape_of c.args.hub.now in
-    may_by shape _ _ _ _ _ _ _ _ c.args.pass.now.seat.me.0 refl c.free_cell.ensures.zero
+    may_by shape _ _ _ _ _ _ _ _ (seen_by c.args.pass.now) refl c.free_cell.ensures.zero
     (ap (λ (z : CellWord). packed_cell z) (c.clause_cell-new.ensures.word
     ∙ clause_word_is shape c.args.c c.args.place cell.Receiver 0 c.args.who c.args.main c.args.clause c.requires.apart))
     (ap (λ (u : WaitId). record { who = c.args.who; act = Await c.args.c c.args.place u c.args.clause }) c.main_at-wait.ensures)
-    (clause_awaits shape c.args.pass.now.seat.me.0 c.args.who c.args.c c.args.place c.args.clause c.args.main c.requires.own.1
+    (clause_awaits shape (seen_by c.args.pass.now) c.args.who c.args.c c.args.place c.args.clause c.args.main c.requires.own.1
     c.requires.at.0 c.requires.at.1 c.ranges.who.fits c.args.hub.now.sized.few c.requires.may c.requires.low)
 
 pub returns-in-None-clause-at : goal.returns-in-None-clause-at
 returns-in-None-clause-at c =
-    subst (λ (u : WaitId). Makes c.args.pass.now.seat.me.0 (record { who = c.args.who; act = Await c.args.c c.args.place u c.args.clause })
-    c.exchange_cell.new.pass.seat.me.0) c.main_at-wait.ensures c.in-None.ensures.told.made
+    subst (λ (u : WaitId). Makes (seen_by c.args.pass.now) (record { who = c.args.who; act = Await c.args.c c.args.place u c.args.clause })
+    (seen_by c.exchange_cell.new.pass)) c.main_at-wait.ensures c.in-None.ensures.told.made
 
 pub returns-in-Some-clause-at : goal.returns-in-Some-clause-at
 returns-in-Some-clause-at c = let t = c.in-Some.ensures.told in
     subst (λ (z : At). ClauseReceiveAt (shape_of c.args.hub.now) c.args.who c.args.c c.args.place c.args.main c.args.clause
-    c.args.pass.now.seat.me.0 c.exchange_cell.new.pass.seat.me.0 z) (sym c.found_by_receiver.ensures)
+    (seen_by c.args.pass.now) (seen_by c.exchange_cell.new.pass) z) (sym c.found_by_receiver.ensures)
     (clause_receive_found (shape_of c.args.hub.now) c.args.who c.args.c c.args.place c.args.clause c.args.main c.in-Some.found
-    c.in-Some.found.state c.args.pass.now.seat.me.0 c.exchange_cell.new.pass.seat.me.0
+    c.in-Some.found.state (seen_by c.args.pass.now) (seen_by c.exchange_cell.new.pass)
     (missed_receive c.args.hub.now c.exchange_cell.new.pass c.exchange_cell.ensures.own.0 c.args.c c.args.place
-    c.args.pass.now.seat.me.0 t.0 c.in-Some.found t.1 c.requires.low _ c.free_cell.ensures.zero t.2 c.args.who))
+    (seen_by c.args.pass.now) t.0 c.in-Some.found t.1 c.requires.low _ c.free_cell.ensures.zero t.2 c.args.who))

@@ -2,6 +2,7 @@ use Rattle.std.proofs.Common.{◌∙◌, sym, refl, arith}
 use Rattle.script_grammar.specs.Tags.{coroutine_count}
 use Rattle.job_words.specs.Forests.{IsOf as IsOfForest, seen_by as jobs_seen_by}
 use Rattle.cell_words.specs.Hubs.{IsOf, seen_by}
+use Rattle.word_seats.proofs.SameForests.{same_forest}
 use Rattle.engine_many.proofs.NewTasks.{nobody_first}
 use Rattle.engine_many.proofs.WholeFloors.{gave_these, gives_out}
 use Rattle.engine_many.proofs.word_run.run_seated.Goals as goal
@@ -23,8 +24,7 @@ returns-clause-pass g c =
 pub returns-clause-jobs : goal.returns-clause-jobs
 returns-clause-jobs g c =
     let seat = c.in_ok-left.left.jobs in
-    let forest = c.requires.forest.0 in
-    (seat.of.0 ∙ seat.named.0 ∙ sym forest.0, seat.of.1 ∙ seat.named.1 ∙ sym forest.1, seat.of.2, seat.of.3)
+    same_forest _ _ c.args.forest.now seat.forest.now seat.pass c.requires.forest.0 seat.named seat.of
 
 pub returns-clause-tags : goal.returns-clause-tags
 returns-clause-tags g c =
@@ -47,9 +47,8 @@ returns-clause-tags g c =
 pub returns-clause-job_tags : goal.returns-clause-job_tags
 returns-clause-job_tags g c =
     let seat = c.in_ok-left.left.jobs in
-    let forest = c.requires.forest.0 in
     let of : IsOfForest c.args.forest.now seat.pass =
-    (seat.of.0 ∙ seat.named.0 ∙ sym forest.0, seat.of.1 ∙ seat.named.1 ∙ sym forest.1, seat.of.2, seat.of.3) in
+    same_forest _ _ c.args.forest.now seat.forest.now seat.pass c.requires.forest.0 seat.named seat.of in
     let n = coroutine_count g.N.ScriptName.program in
     let whole = c.in_ok-left.ensures.whole in
     record {

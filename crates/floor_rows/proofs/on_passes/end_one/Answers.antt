@@ -1,6 +1,7 @@
 use Rattle.std.proofs.Common.{◌≡◌, Bool, true, false, ap, ◌∙◌, refl}
 use Rattle.std.specs.Prelude.{◌||◌}
 use Rattle.worded.specs.Views.{has_tag}
+use Rattle.cell_words.specs.Hubs.{seen_by}
 use Rattle.floor_rows.proofs.on_passes.end_one.Goals as goal
 
 or_true : (b : Bool) → (b || true) ≡ true
@@ -9,7 +10,7 @@ or_true false = refl
 
 pub returns : goal.returns
 returns c =
-    let old = has_tag c.args.who c.args.main.now.seat.me.0.tags in
+    let old = has_tag c.args.who (seen_by c.args.main.now).tags in
     record {
       own = (
         c.end.ensures.main,

@@ -1,5 +1,5 @@
 use Rattle.std.proofs.Common.{ℕ, Bool, Some, ap, ◌∙◌}
-use Rattle.cell_words.specs.Cells.{spot}
+use Rattle.word_rules.specs.Cells.{spot}
 use Rattle.cell_calls.specs.HubFloors.{hub_floor}
 use Rattle.cell_calls.proofs.CallersStay.{register_receive_callers}
 use Rattle.floor_rows.proofs.selects_on_passes.join.Goals as goal

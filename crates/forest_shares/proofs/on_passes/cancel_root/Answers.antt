@@ -1,5 +1,5 @@
 use Rattle.std.proofs.Common.{◌≡◌, ◌≤◌, ap, arith}
-use Rattle.job_words.specs.declared.size.ForestSize.{ForestSize}
+use Rattle.word_rules.specs.declared.size.ForestSize.{ForestSize}
 use Rattle.job_words.specs.Passes.{floor_seen}
 use Rattle.job_words.specs.Forests.{seen_by}
 use Rattle.job_tree.specs.Rooms.{uncancelled}

@@ -1,5 +1,5 @@
 use Rattle.std.proofs.Common.{ap, ◌∙◌}
-use Rattle.job_words.specs.declared.size.ForestSize.{ForestSize}
+use Rattle.word_rules.specs.declared.size.ForestSize.{ForestSize}
 use Rattle.forest_calls.proofs.PassesStayOwn.{stays_own, gives_on}
 use Rattle.forest_shares.proofs.on_passes.make_on.Goals as goal
 

@@ -2,22 +2,23 @@ use Rattle.std.proofs.Common.{◌≡◌, ℕ, ◌<◌, ◌≤◌, true, [], is_s
 use Rattle.job_model.specs.Trees.{is_ended}
 use Rattle.job_model.specs.Families.{IsEnded}
 use Rattle.job_model.specs.declared.acts.JobKind.{JobKind}
-use Rattle.job_words.specs.Rows.{job_code, new_word, new_link, with_newest, IsNarrow, IsNarrowLink}
-use Rattle.job_words.specs.Deeds.{store_of}
+use Rattle.word_rules.specs.Rows.{job_code, new_word, new_link, with_newest, IsNarrow, IsNarrowLink}
+use Rattle.word_rules.specs.Deeds.{store_of}
 use Rattle.job_words.specs.Passes.{Seen, IsMine, Sees, Goes}
 use Rattle.job_words.specs.Attaches.{IsAttached, AttachedNow}
-use Rattle.job_words.specs.declared.job_word.JobWord.{JobWord}
-use Rattle.job_words.specs.declared.link_word.LinkWord.{LinkWord}
+use Rattle.word_rules.specs.declared.job_word.JobWord.{JobWord}
+use Rattle.word_rules.specs.declared.link_word.LinkWord.{LinkWord}
 use Rattle.job_words.proofs.OneCodeOneWord.{link_code_is, link_code_short}
 use Rattle.job_words.proofs.MayExchange.{attaches_row, not_root}
 use Rattle.job_words.proofs.StepsAsCalls.{sees_goes, goes_trans}
 use Rattle.job_words.proofs.LostExchangesGrow.{grew, grew_more, mine_sees, attached_goes}
 use Rattle.job_words.proofs.PartsOfAnAttach.{row_within, attached_words, sees_done, living_few, state_seen}
+use Rattle.job_words.specs.Forests.{seen_by}
 use Rattle.job_words.proofs.attaching.attach_once.Goals as goal
 
 pub returns-then-is_completed-clause-tried : goal.returns-then-is_completed-clause-tried
-returns-then-is_completed-clause-tried c = state_seen IsEnded c.args.forest.now.size c.args.who c.args.pass.now.seat.me.0
-    c.load_job-above.new.pass.seat.me.0 c.args.parent c.load_job-above.result c.args.forest.now.small c.requires.own.0.1
+returns-then-is_completed-clause-tried c = state_seen IsEnded c.args.forest.now.size c.args.who (seen_by c.args.pass.now)
+    (seen_by c.load_job-above.new.pass) c.args.parent c.load_job-above.result c.args.forest.now.small c.requires.own.0.1
     c.load_job-above.ensures.sees c.load_job-above.ensures.attached c.load_job-above.ensures.word
     (λ j e. ap (λ (x : JobWord). is_ended x.state) e ∙ sym c.is_completed.ensures ∙ c.if-is_completed.true)
 
@@ -28,23 +29,23 @@ pub pack-new_link-requires : goal.pack-new_link-requires
 pack-new_link-requires c =
     let p = c.args.pass.now in
     narrow_link c.args.parent c.load_job-above.result.first_child c.args.tag c.args.forest.now.size.rows c.args.kind
-    (row_within c.args.forest.now.size p.seat.me.0 c.args.parent c.requires.own.0.1 p.shaped p.done c.requires.parent)
+    (row_within c.args.forest.now.size (seen_by p) c.args.parent c.requires.own.0.1 p.shaped p.done c.requires.parent)
     c.args.forest.now.small.few c.load_job-above.ensures.word.narrow.first_child (omega (arith, c.ranges.tag.fits))
 
 pub store_link-requires-clause-mine : goal.store_link-requires-clause-mine
 store_link-requires-clause-mine c = (
   c.args.job,
-  mine_sees c.args.who c.args.row c.args.link c.args.job c.args.pass.now.seat.me.0
-      c.load_job-above.new.pass.seat.me.0 c.load_job-above.ensures.sees c.requires.mine,
+  mine_sees c.args.who c.args.row c.args.link c.args.job (seen_by c.args.pass.now)
+      (seen_by c.load_job-above.new.pass) c.load_job-above.ensures.sees c.requires.mine,
 )
 
 pub store_link-requires-clause-link : goal.store_link-requires-clause-link
 store_link-requires-clause-link c =
     let p = c.args.pass.now in
-    let v1 = c.load_job-above.new.pass.seat.me.0 in
+    let v1 = seen_by c.load_job-above.new.pass in
     let link : LinkWord = new_link c.args.parent c.load_job-above.result.first_child c.args.tag c.args.kind in
     let narrow = narrow_link c.args.parent c.load_job-above.result.first_child c.args.tag c.args.forest.now.size.rows c.args.kind
-    (row_within c.args.forest.now.size p.seat.me.0 c.args.parent c.requires.own.0.1 p.shaped p.done c.requires.parent)
+    (row_within c.args.forest.now.size (seen_by p) c.args.parent c.requires.own.0.1 p.shaped p.done c.requires.parent)
     c.args.forest.now.small.few c.load_job-above.ensures.word.narrow.first_child (omega (arith, c.ranges.tag.fits)) in
     λ w nw e. subst (λ (x : LinkWord). is_some ((store_of v1.seen).tree x.parent) ≡ true)
     (link_code_is link w narrow nw (sym c.pack-new_link.ensures ∙ sym e)) c.load_job-above.ensures.attached
@@ -54,15 +55,15 @@ store_link-requires-clause-short c =
     let p = c.args.pass.now in
     let link : LinkWord = new_link c.args.parent c.load_job-above.result.first_child c.args.tag c.args.kind in
     let narrow = narrow_link c.args.parent c.load_job-above.result.first_child c.args.tag c.args.forest.now.size.rows c.args.kind
-    (row_within c.args.forest.now.size p.seat.me.0 c.args.parent c.requires.own.0.1 p.shaped p.done c.requires.parent)
+    (row_within c.args.forest.now.size (seen_by p) c.args.parent c.requires.own.0.1 p.shaped p.done c.requires.parent)
     c.args.forest.now.small.few c.load_job-above.ensures.word.narrow.first_child (omega (arith, c.ranges.tag.fits)) in
     subst (λ (n : ℕ). n < 140737488355328) (sym c.pack-new_link.ensures) (link_code_short link narrow refl)
 
 pub store_job-requires-clause-mine : goal.store_job-requires-clause-mine
 store_job-requires-clause-mine c = (
   c.pack-new_link.result,
-  c.store_link.ensures.mine c.args.job (mine_sees c.args.who c.args.row c.args.link c.args.job c.args.pass.now.seat.me.0
-      c.load_job-above.new.pass.seat.me.0 c.load_job-above.ensures.sees c.requires.mine),
+  c.store_link.ensures.mine c.args.job (mine_sees c.args.who c.args.row c.args.link c.args.job (seen_by c.args.pass.now)
+      (seen_by c.load_job-above.new.pass) c.load_job-above.ensures.sees c.requires.mine),
 )
 
 -- from the call to the last exchange
@@ -71,10 +72,10 @@ stored who v0 v1 v2 v3 a b d = goes_trans who [] [] v0 v1 v3 (sees_goes who v0 v
 
 pub act_on-requires-clause-attached : goal.act_on-requires-clause-attached
 act_on-requires-clause-attached c =
-    let v0 = c.args.pass.now.seat.me.0 in
-    let v3 = c.store_job.new.pass.seat.me.0 in
-    attached_goes c.args.who [] v0 v3 c.args.parent (stored c.args.who v0 c.load_job-above.new.pass.seat.me.0
-    c.store_link.new.pass.seat.me.0 v3 c.load_job-above.ensures.sees c.store_link.ensures.goes c.store_job.ensures.goes)
+    let v0 = seen_by c.args.pass.now in
+    let v3 = seen_by c.store_job.new.pass in
+    attached_goes c.args.who [] v0 v3 c.args.parent (stored c.args.who v0 (seen_by c.load_job-above.new.pass)
+    (seen_by c.store_link.new.pass) v3 c.load_job-above.ensures.sees c.store_link.ensures.goes c.store_job.ensures.goes)
     c.requires.parent
 
 narrow_more : (w : JobWord) (r rows : ℕ) → IsNarrow w → w.living ≤ 16000 → r < rows → rows ≤ 16000 → IsNarrow (with_newest r w)
@@ -83,8 +84,8 @@ narrow_more w r rows n l lt few = record { first_child = omega arith; living = o
 pub act_on-requires-clause-narrow : goal.act_on-requires-clause-narrow
 act_on-requires-clause-narrow c =
     let f = c.args.forest.now in
-    let v0 = c.args.pass.now.seat.me.0 in
-    let v1 = c.load_job-above.new.pass.seat.me.0 in
+    let v0 = seen_by c.args.pass.now in
+    let v1 = seen_by c.load_job-above.new.pass in
     let few = living_few f.size v1 c.args.parent c.load_job-above.result f.small
     (sees_done f.size c.args.who v0 v1 c.requires.own.0.1 c.load_job-above.ensures.sees) c.load_job-above.ensures.attached
     c.load_job-above.ensures.word in (
@@ -96,9 +97,9 @@ act_on-requires-clause-narrow c =
 pub act_on-requires-clause-may : goal.act_on-requires-clause-may
 act_on-requires-clause-may c =
     let f = c.args.forest.now in
-    let v0 = c.args.pass.now.seat.me.0 in
-    let v1 = c.load_job-above.new.pass.seat.me.0 in
-    let v3 = c.store_job.new.pass.seat.me.0 in
+    let v0 = seen_by c.args.pass.now in
+    let v1 = seen_by c.load_job-above.new.pass in
+    let v3 = seen_by c.store_job.new.pass in
     let mine1 = mine_sees c.args.who c.args.row c.args.link c.args.job v0 v1 c.load_job-above.ensures.sees c.requires.mine in
     let mine3 : IsMine c.args.who c.args.row c.pack-new_link.result c.pack-new_job.result (store_of v3.seen) =
     c.store_job.ensures.mine c.pack-new_link.result (c.store_link.ensures.mine c.args.job mine1) in
@@ -107,7 +108,7 @@ act_on-requires-clause-may c =
     attaches_row f.size v3 c.args.who c.args.parent c.args.row c.args.kind c.args.tag c.is_cancelled-cancelled.result
     c.load_job-above.result f.small c.store_job.ensures.own.1
     (subst (λ (x : ℕ × ℕ). IsMine c.args.who c.args.row x.0 x.1 (store_of v3.seen)) (λ i. (c.pack-new_link.ensures i, job i)) mine3)
-    (attached_goes c.args.who [] v0 v3 c.args.parent (stored c.args.who v0 v1 c.store_link.new.pass.seat.me.0 v3
+    (attached_goes c.args.who [] v0 v3 c.args.parent (stored c.args.who v0 v1 (seen_by c.store_link.new.pass) v3
     c.load_job-above.ensures.sees c.store_link.ensures.goes c.store_job.ensures.goes) c.requires.parent)
     c.load_job-above.ensures.word.narrow (sym c.is_completed.ensures
     ∙ c.if-is_completed.false) c.is_cancelled-cancelled.ensures c.requires.tag c.requires.row.1
@@ -115,22 +116,22 @@ act_on-requires-clause-may c =
 pub raise_hint-requires-clause-row : goal.raise_hint-requires-clause-row
 raise_hint-requires-clause-row c =
     let p = c.args.pass.now in
-    (c.requires.row.0, not_root p.seat.me.0.key p.seat.me.0.seen c.args.row p.done c.requires.mine.tree)
+    (c.requires.row.0, not_root (seen_by p).key (seen_by p).seen c.args.row p.done c.requires.mine.tree)
 
 pub raise_hint-requires-clause-attached : goal.raise_hint-requires-clause-attached
 raise_hint-requires-clause-attached c =
-    let mine1 = mine_sees c.args.who c.args.row c.args.link c.args.job c.args.pass.now.seat.me.0 c.load_job-above.new.pass.seat.me.0
+    let mine1 = mine_sees c.args.who c.args.row c.args.link c.args.job (seen_by c.args.pass.now) (seen_by c.load_job-above.new.pass)
     c.load_job-above.ensures.sees c.requires.mine in
     (attached_words c.args.who c.args.parent c.args.row c.pack-new_link.result c.pack-new_job.result _ _ c.args.kind c.args.tag
-    c.is_cancelled-cancelled.result c.store_job.new.pass.seat.me.0 c.act_on.new.pass.seat.me.0 c.if-act_on.ensures.told
+    c.is_cancelled-cancelled.result (seen_by c.store_job.new.pass) (seen_by c.act_on.new.pass) c.if-act_on.ensures.told
     (c.store_job.ensures.mine c.pack-new_link.result (c.store_link.ensures.mine c.args.job mine1))).0
 
 pub raise_hint-requires-clause-link : goal.raise_hint-requires-clause-link
 raise_hint-requires-clause-link c =
-    let mine1 = mine_sees c.args.who c.args.row c.args.link c.args.job c.args.pass.now.seat.me.0 c.load_job-above.new.pass.seat.me.0
+    let mine1 = mine_sees c.args.who c.args.row c.args.link c.args.job (seen_by c.args.pass.now) (seen_by c.load_job-above.new.pass)
     c.load_job-above.ensures.sees c.requires.mine in
     (attached_words c.args.who c.args.parent c.args.row c.pack-new_link.result c.pack-new_job.result _ _ c.args.kind c.args.tag
-    c.is_cancelled-cancelled.result c.store_job.new.pass.seat.me.0 c.act_on.new.pass.seat.me.0 c.if-act_on.ensures.told
+    c.is_cancelled-cancelled.result (seen_by c.store_job.new.pass) (seen_by c.act_on.new.pass) c.if-act_on.ensures.told
     (c.store_job.ensures.mine c.pack-new_link.result (c.store_link.ensures.mine c.args.job mine1))).1
 
 pub raise_hint-requires-clause-short : goal.raise_hint-requires-clause-short
@@ -138,7 +139,7 @@ raise_hint-requires-clause-short c =
     let p = c.args.pass.now in
     let link : LinkWord = new_link c.args.parent c.load_job-above.result.first_child c.args.tag c.args.kind in
     let narrow = narrow_link c.args.parent c.load_job-above.result.first_child c.args.tag c.args.forest.now.size.rows c.args.kind
-    (row_within c.args.forest.now.size p.seat.me.0 c.args.parent c.requires.own.0.1 p.shaped p.done c.requires.parent)
+    (row_within c.args.forest.now.size (seen_by p) c.args.parent c.requires.own.0.1 p.shaped p.done c.requires.parent)
     c.args.forest.now.small.few c.load_job-above.ensures.word.narrow.first_child (omega (arith, c.ranges.tag.fits)) in
     subst (λ (n : ℕ). n < 140737488355328) (sym c.pack-new_link.ensures) (link_code_short link narrow refl)
 
@@ -148,15 +149,15 @@ returns-then-act_on-clause-parent c = subst (λ (w : Seen). IsAttached w c.args.
 
 pub returns-then-act_on-clause-tried : goal.returns-then-act_on-clause-tried
 returns-then-act_on-clause-tried c =
-    let v0 = c.args.pass.now.seat.me.0 in
-    let v3 = c.store_job.new.pass.seat.me.0 in
+    let v0 = seen_by c.args.pass.now in
+    let v3 = seen_by c.store_job.new.pass in
     subst (λ (w : Seen). AttachedNow c.args.who c.args.parent c.args.kind c.args.tag c.args.row c.is_cancelled-cancelled.result v0 w)
     (sym c.raise_hint.ensures.same) (
       c.load_job-above.result,
       record {
         before = v3;
         goes =
-            stored c.args.who v0 c.load_job-above.new.pass.seat.me.0 c.store_link.new.pass.seat.me.0 v3 c.load_job-above.ensures.sees
+            stored c.args.who v0 (seen_by c.load_job-above.new.pass) (seen_by c.store_link.new.pass) v3 c.load_job-above.ensures.sees
             c.store_link.ensures.goes c.store_job.ensures.goes;
         does = c.if-act_on.ensures.told;
       },
@@ -164,11 +165,11 @@ returns-then-act_on-clause-tried c =
 
 pub returns-else-act_on-clause-tried : goal.returns-else-act_on-clause-tried
 returns-else-act_on-clause-tried c =
-    let v0 = c.args.pass.now.seat.me.0 in
-    let v1 = c.load_job-above.new.pass.seat.me.0 in
-    let v2 = c.store_link.new.pass.seat.me.0 in
-    let v3 = c.store_job.new.pass.seat.me.0 in
-    let v4 = c.act_on.new.pass.seat.me.0 in
+    let v0 = seen_by c.args.pass.now in
+    let v1 = seen_by c.load_job-above.new.pass in
+    let v2 = seen_by c.store_link.new.pass in
+    let v3 = seen_by c.store_job.new.pass in
+    let v4 = seen_by c.act_on.new.pass in
     let last = sees_goes c.args.who v3 v4 c.if-act_on.ensures.told.0 in
     let mine1 = mine_sees c.args.who c.args.row c.args.link c.args.job v0 v1 c.load_job-above.ensures.sees c.requires.mine in
     let mine3 : IsMine c.args.who c.args.row c.pack-new_link.result c.pack-new_job.result (store_of v3.seen) =

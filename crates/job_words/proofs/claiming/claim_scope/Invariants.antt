@@ -1,5 +1,5 @@
 use Rattle.std.proofs.Common.{◌≤◌, []}
-use Rattle.job_words.specs.Deeds.{store_of, AreClaimedBelow}
+use Rattle.word_rules.specs.Deeds.{store_of, AreClaimedBelow}
 use Rattle.job_words.specs.Passes.{Goes}
 use Rattle.job_words.specs.Forests.{seen_by, IsOwn}
 use Rattle.job_words.proofs.claiming.claim_scope.Given as goal

@@ -1,15 +1,16 @@
 use Rattle.job_words.proofs.MayExchange.{stores_job}
 use Rattle.job_words.proofs.PartsOfAnAttach.{job_told}
+use Rattle.job_words.specs.Forests.{seen_by}
 use Rattle.job_words.proofs.claiming.store_job.Goals as goal
 
 pub exchange_word-requires-clause-may : goal.exchange_word-requires-clause-may
-exchange_word-requires-clause-may c = stores_job c.args.forest.now.size c.args.pass.now.seat.me.0 c.args.who c.args.row c.requires.mine.0
+exchange_word-requires-clause-may c = stores_job c.args.forest.now.size (seen_by c.args.pass.now) c.args.who c.args.row c.requires.mine.0
     c.args.old c.args.new c.requires.own.1 c.requires.mine.1 c.requires.some
 
 pub returns-clause-goes : goal.returns-clause-goes
-returns-clause-goes c = (job_told c.args.who c.args.row c.args.old c.args.new c.exchange_word.result c.args.pass.now.seat.me.0
-    c.exchange_word.new.pass.seat.me.0 c.requires.mine c.exchange_word.ensures.told).0
+returns-clause-goes c = (job_told c.args.who c.args.row c.args.old c.args.new c.exchange_word.result (seen_by c.args.pass.now)
+    (seen_by c.exchange_word.new.pass) c.requires.mine c.exchange_word.ensures.told).0
 
 pub returns-clause-mine : goal.returns-clause-mine
-returns-clause-mine c = (job_told c.args.who c.args.row c.args.old c.args.new c.exchange_word.result c.args.pass.now.seat.me.0
-    c.exchange_word.new.pass.seat.me.0 c.requires.mine c.exchange_word.ensures.told).1
+returns-clause-mine c = (job_told c.args.who c.args.row c.args.old c.args.new c.exchange_word.result (seen_by c.args.pass.now)
+    (seen_by c.exchange_word.new.pass) c.requires.mine c.exchange_word.ensures.told).1

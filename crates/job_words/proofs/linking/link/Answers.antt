@@ -1,13 +1,14 @@
 use Rattle.std.proofs.Common.{◌≡◌, Some, None, sym, ◌∙◌, refl}
-use Rattle.job_words.specs.Rows.{without_hint}
+use Rattle.word_rules.specs.Rows.{without_hint}
 use Rattle.job_words.proofs.PartsOfAnAttach.{sees_done}
 use Rattle.job_words.proofs.TriesOfAnAct.{link_answer}
+use Rattle.job_words.specs.Forests.{seen_by}
 use Rattle.job_words.proofs.linking.link.Goals as goal
 
 pub returns-then-word-eq0-clause-answer : goal.returns-then-word-eq0-clause-answer
 returns-then-word-eq0-clause-answer c =
-    let v0 = c.args.pass.now.seat.me.0 in
-    let v1 = c.load_link-word.new.pass.seat.me.0 in
+    let v0 = seen_by c.args.pass.now in
+    let v1 = seen_by c.load_link-word.new.pass in
     let size = c.args.forest.now.size in
     let sees = c.load_link-word.ensures.sees in
     link_answer size c.args.who c.args.row v0 v1 (without_hint c.load_link-word.result) None c.args.forest.now.small
@@ -16,8 +17,8 @@ returns-then-word-eq0-clause-answer c =
 
 pub returns-else-word-eq0-clause-answer : goal.returns-else-word-eq0-clause-answer
 returns-else-word-eq0-clause-answer c =
-    let v0 = c.args.pass.now.seat.me.0 in
-    let v1 = c.load_link-word.new.pass.seat.me.0 in
+    let v0 = seen_by c.args.pass.now in
+    let v1 = seen_by c.load_link-word.new.pass in
     let size = c.args.forest.now.size in
     let sees = c.load_link-word.ensures.sees in
     let n = c.load_link-word.result.next in

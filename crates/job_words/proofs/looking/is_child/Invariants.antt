@@ -1,6 +1,6 @@
 use Rattle.std.proofs.Common.{[]}
 use Rattle.job_model.specs.Families.{children_of}
-use Rattle.job_words.specs.Deeds.{store_of}
+use Rattle.word_rules.specs.Deeds.{store_of}
 use Rattle.job_words.specs.Passes.{Goes}
 use Rattle.job_words.specs.Attaches.{IsAttached}
 use Rattle.job_words.specs.Forests.{seen_by, IsOwn}

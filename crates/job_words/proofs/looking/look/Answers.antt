@@ -2,18 +2,19 @@ use Rattle.std.proofs.Common.{[], Some, sym, ◌∙◌, ap}
 use Rattle.job_words.proofs.StepsAsCalls.{sees_goes, goes_trans}
 use Rattle.job_words.proofs.PartsOfAnAttach.{sees_done}
 use Rattle.job_words.proofs.LooksSee.{kind_goes, view_seen, look_some, look_none}
+use Rattle.job_words.specs.Forests.{seen_by}
 use Rattle.job_words.proofs.looking.look.Goals as goal
 
 pub returns-in-None-clause-answer : goal.returns-in-None-clause-answer
-returns-in-None-clause-answer c = look_none c.args.who c.args.row c.args.pass.now.seat.me.0 c.kind_if_attached.new.pass.seat.me.0
+returns-in-None-clause-answer c = look_none c.args.who c.args.row (seen_by c.args.pass.now) (seen_by c.kind_if_attached.new.pass)
     c.in-None.ensures.answer
 
 pub returns-in-Some-clause-answer : goal.returns-in-Some-clause-answer
 returns-in-Some-clause-answer c =
     let size = c.args.forest.now.size in
-    let v0 = c.args.pass.now.seat.me.0 in
-    let v1 = c.kind_if_attached.new.pass.seat.me.0 in
-    let v2 = c.load_job-word.new.pass.seat.me.0 in
+    let v0 = seen_by c.args.pass.now in
+    let v1 = seen_by c.kind_if_attached.new.pass in
+    let v2 = seen_by c.load_job-word.new.pass in
     let t = c.in-Some.ensures.answer in
     let sees = c.load_job-word.ensures.sees in
     let last = sees_goes c.args.who v1 v2 sees in

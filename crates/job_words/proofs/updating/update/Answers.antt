@@ -5,12 +5,13 @@ use Rattle.job_words.proofs.StepsAsCalls.{sees_goes, goes_trans}
 use Rattle.job_words.proofs.ClaimedRows.{goes_self}
 use Rattle.job_words.proofs.LostExchangesGrow.{nearer}
 use Rattle.job_words.proofs.TriesOfAnAct.{lost}
+use Rattle.job_words.specs.Forests.{seen_by}
 use Rattle.job_words.proofs.updating.update.Goals as goal
 
 pub tries-init : goal.tries-init
 tries-init g c = record {
   own = c.requires.own;
-  goes = goes_self c.args.who c.args.pass.now.seat.me.0 c.requires.own.0.2 c.args.pass.now.done;
+  goes = goes_self c.args.who (seen_by c.args.pass.now) c.requires.own.0.2 c.args.pass.now.done;
   attached = c.requires.attached;
 }
 
@@ -19,8 +20,8 @@ loaded : (who : ℕ) (u v w : Seen) → Goes who [] u v → Sees who v w → Goe
 loaded who u v w g s = goes_trans who [] [] u v w g (sees_goes who v w s)
 
 pub decide-requires : goal.decide-requires
-decide-requires g c = c.requires.can c.load_job-word.new.pass.seat.me.0 c.load_job-word.result
-    (loaded c.args.who c.args.pass.now.seat.me.0 c.tries.pass.seat.me.0 c.load_job-word.new.pass.seat.me.0 c.tries.invariant.goes
+decide-requires g c = c.requires.can (seen_by c.load_job-word.new.pass) c.load_job-word.result
+    (loaded c.args.who (seen_by c.args.pass.now) (seen_by c.tries.pass) (seen_by c.load_job-word.new.pass) c.tries.invariant.goes
     c.load_job-word.ensures.sees) c.load_job-word.ensures.word
 
 pub returns-in-Keep-clause-answer : goal.returns-in-Keep-clause-answer
@@ -29,7 +30,7 @@ returns-in-Keep-clause-answer g c = (
   Keep c.in-Keep.answer,
   c.in-Keep.ensures,
   (
-    loaded c.args.who c.args.pass.now.seat.me.0 c.tries.pass.seat.me.0 c.load_job-word.new.pass.seat.me.0 c.tries.invariant.goes
+    loaded c.args.who (seen_by c.args.pass.now) (seen_by c.tries.pass) (seen_by c.load_job-word.new.pass) c.tries.invariant.goes
         c.load_job-word.ensures.sees,
     c.load_job-word.ensures.word,
     refl,
@@ -39,15 +40,15 @@ returns-in-Keep-clause-answer g c = (
 pub act_on-requires-clause-narrow : goal.act_on-requires-clause-narrow
 act_on-requires-clause-narrow g c = (
   c.load_job-word.ensures.word.narrow,
-  (c.requires.may c.load_job-word.new.pass.seat.me.0 c.load_job-word.result (Change c.in-Change.new c.in-Change.act c.in-Change.answer)
-      (loaded c.args.who c.args.pass.now.seat.me.0 c.tries.pass.seat.me.0 c.load_job-word.new.pass.seat.me.0 c.tries.invariant.goes
+  (c.requires.may (seen_by c.load_job-word.new.pass) c.load_job-word.result (Change c.in-Change.new c.in-Change.act c.in-Change.answer)
+      (loaded c.args.who (seen_by c.args.pass.now) (seen_by c.tries.pass) (seen_by c.load_job-word.new.pass) c.tries.invariant.goes
       c.load_job-word.ensures.sees) c.load_job-word.ensures.word c.in-Change.ensures).0,
 )
 
 pub act_on-requires-clause-may : goal.act_on-requires-clause-may
 act_on-requires-clause-may g c =
-    (c.requires.may c.load_job-word.new.pass.seat.me.0 c.load_job-word.result (Change c.in-Change.new c.in-Change.act c.in-Change.answer)
-    (loaded c.args.who c.args.pass.now.seat.me.0 c.tries.pass.seat.me.0 c.load_job-word.new.pass.seat.me.0 c.tries.invariant.goes
+    (c.requires.may (seen_by c.load_job-word.new.pass) c.load_job-word.result (Change c.in-Change.new c.in-Change.act c.in-Change.answer)
+    (loaded c.args.who (seen_by c.args.pass.now) (seen_by c.tries.pass) (seen_by c.load_job-word.new.pass) c.tries.invariant.goes
     c.load_job-word.ensures.sees) c.load_job-word.ensures.word c.in-Change.ensures).1
 
 pub returns-then-act_on-clause-answer : goal.returns-then-act_on-clause-answer
@@ -57,8 +58,8 @@ returns-then-act_on-clause-answer g c = (
   c.in-Change.ensures,
   (
     record {
-      before = c.load_job-word.new.pass.seat.me.0;
-      goes = loaded c.args.who c.args.pass.now.seat.me.0 c.tries.pass.seat.me.0 c.load_job-word.new.pass.seat.me.0
+      before = (seen_by c.load_job-word.new.pass);
+      goes = loaded c.args.who (seen_by c.args.pass.now) (seen_by c.tries.pass) (seen_by c.load_job-word.new.pass)
           c.tries.invariant.goes c.load_job-word.ensures.sees;
       does = c.if-act_on.ensures.told;
     },
@@ -68,17 +69,17 @@ returns-then-act_on-clause-answer g c = (
 )
 
 pub tries-smaller : goal.tries-smaller
-tries-smaller g c = nearer c.args.forest.now.size c.tries.pass.seat.me.0 c.act_on.new.pass.seat.me.0 c.args.forest.now.small
-    c.act_on.ensures.own.0.1 c.act_on.new.pass.done (lost c.args.who c.args.row c.load_job-word.result c.tries.pass.seat.me.0
-    c.load_job-word.new.pass.seat.me.0 c.act_on.new.pass.seat.me.0 c.load_job-word.ensures.sees c.load_job-word.ensures.attached
+tries-smaller g c = nearer c.args.forest.now.size (seen_by c.tries.pass) (seen_by c.act_on.new.pass) c.args.forest.now.small
+    c.act_on.ensures.own.0.1 c.act_on.new.pass.done (lost c.args.who c.args.row c.load_job-word.result (seen_by c.tries.pass)
+    (seen_by c.load_job-word.new.pass) (seen_by c.act_on.new.pass) c.load_job-word.ensures.sees c.load_job-word.ensures.attached
     c.load_job-word.ensures.word c.if-act_on.ensures.told).grew
 
 pub tries-preserved : goal.tries-preserved
 tries-preserved g c = record {
   own = c.act_on.ensures.own;
-  goes = goes_trans c.args.who [] [] c.args.pass.now.seat.me.0 c.tries.pass.seat.me.0 c.act_on.new.pass.seat.me.0 c.tries.invariant.goes
-      (lost c.args.who c.args.row c.load_job-word.result c.tries.pass.seat.me.0 c.load_job-word.new.pass.seat.me.0
-      c.act_on.new.pass.seat.me.0 c.load_job-word.ensures.sees c.load_job-word.ensures.attached c.load_job-word.ensures.word
+  goes = goes_trans c.args.who [] [] (seen_by c.args.pass.now) (seen_by c.tries.pass) (seen_by c.act_on.new.pass) c.tries.invariant.goes
+      (lost c.args.who c.args.row c.load_job-word.result (seen_by c.tries.pass) (seen_by c.load_job-word.new.pass)
+      (seen_by c.act_on.new.pass) c.load_job-word.ensures.sees c.load_job-word.ensures.attached c.load_job-word.ensures.word
       c.if-act_on.ensures.told).goes;
   attached = c.act_on.ensures.attached;
 }

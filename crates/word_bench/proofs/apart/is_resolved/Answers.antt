@@ -1,6 +1,6 @@
 use Rattle.std.proofs.Common.{ℕ, Bool, ap, ◌∙◌, subst}
 use Rattle.channel_model.specs.Answers.{LookAnswer}
-use Rattle.cell_words.specs.Cells.{spot}
+use Rattle.word_rules.specs.Cells.{spot}
 use Rattle.cell_words.proofs.LooksAtCells.{hub_legal}
 use Rattle.cell_calls.specs.HubFloors.{hub_floor}
 use Rattle.word_bench.proofs.WaitsBegun.{wait_own, wait_looked, ready_looked}

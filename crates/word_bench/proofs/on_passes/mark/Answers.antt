@@ -1,5 +1,5 @@
 use Rattle.std.proofs.Common.{ℕ, Bool, ap, ◌∙◌}
-use Rattle.cell_words.specs.Cells.{spot}
+use Rattle.word_rules.specs.Cells.{spot}
 use Rattle.cell_words.proofs.LooksAtCells.{hub_legal}
 use Rattle.cell_calls.specs.HubFloors.{hub_floor}
 use Rattle.word_bench.proofs.WaitsBegun.{plain_looked}

@@ -1,19 +1,26 @@
-use Rattle.std.proofs.Common.{◌∷◌, [], sym, ap, subst}
-use Rattle.worded.specs.Views.{with_next, next_given, new_view}
+use Rattle.std.proofs.Common.{◌≡◌, ℕ, Bool, true, false, if◌then◌else◌, eq-eqb, refl, ◌∷◌, [], sym, ap, ◌∙◌, subst, arith}
+use Rattle.worded.specs.Views.{has_tag, with_next, next_given, new_view, is_bare}
 use Rattle.worded.proofs.TagsNotGiven.{ungiven_giver, ungiven_given}
 use Rattle.job_words.specs.Passes.{Seen, floor_seen}
 use Rattle.job_words.specs.Meetings.{NothingOf, NothingSeenOf}
+use Rattle.job_words.specs.Forests.{seen_by}
 use Rattle.job_words.proofs.StoreStaysSound.{size_shape}
-use Rattle.job_words.proofs.StepsOfATable.{PassLaws, pass_laws}
+use Rattle.job_words.proofs.StepsOfATable.{PassLaws, TableSeen, pass_laws, stays_at}
 use Rattle.job_words.proofs.PassesMeet.{nothing_of}
 use Rattle.job_words.proofs.forest.Forest.split.Goals as goal
+
+own_tag : (t : ℕ) → has_tag t (t ∷ []) ≡ true
+own_tag t = ap (λ (b : Bool). if b then true else false) (eq-eqb t t refl)
+
+pub split_in-seat-requires-clause-words : goal.split_in-seat-requires-clause-words
+split_in-seat-requires-clause-words c = (c.args.self.now.placed.wide, omega arith)
 
 pub invariant_of-pass : goal.invariant_of-pass
 invariant_of-pass c =
     let f = c.args.self.now in
     let p = c.args.pass.now in
-    let v = p.seat.me.0 in
-    let l = subst PassLaws (sym c.split-seat.ensures.first) (pass_laws f.size (next_given (with_next v c.args.tag))
+    let v = seen_by p in
+    let l = subst PassLaws (sym c.split_in-seat.ensures.first) (pass_laws f.size (next_given (with_next v c.args.tag))
     (size_shape f.size f.small) c.requires.of.1 p.done (ungiven_giver NothingSeenOf v c.args.tag (λ u h. h) p.ungiven)) in
     record { shaped = l.shaped; done = l.done; legal = l.legal; claimed = l.claimed; ungiven = l.ungiven }
 
@@ -21,13 +28,43 @@ pub invariant_of-result : goal.invariant_of-result
 invariant_of-result c =
     let f = c.args.self.now in
     let p = c.args.pass.now in
-    let v = with_next p.seat.me.0 c.args.tag in
-    let l = subst PassLaws (sym (ap (λ m. m.0) c.split-seat.ensures.new.1)) (pass_laws f.size (new_view v) (size_shape f.size f.small)
+    let v = with_next (seen_by p) c.args.tag in
+    let l = subst PassLaws (sym c.split_in-seat.ensures.new.2) (pass_laws f.size (new_view v) (size_shape f.size f.small)
     c.requires.of.1 p.done (ungiven_given NothingSeenOf v)) in
     record { shaped = l.shaped; done = l.done; legal = l.legal; claimed = l.claimed; ungiven = l.ungiven }
 
+pub returns-clause-of : goal.returns-clause-of
+returns-clause-of c =
+    let e = c.split_in-seat.ensures.whole.0 in
+    stays_at c.args.self.now c.args.pass.now.seat c.split_in-seat.new.seat c.requires.of c.split_in-seat.ensures.same
+    (ap (λ (x : TableSeen). x.key) e) (ap (λ (x : TableSeen). x.heard_tags) e ∙ c.requires.of.0.2)
+
+pub returns-clause-same : goal.returns-clause-same
+returns-clause-same c = ap floor_seen c.split_in-seat.ensures.first
+
+pub returns-clause-gives : goal.returns-clause-gives
+returns-clause-gives c =
+    let e = c.split_in-seat.ensures.first in
+    (ap (λ (x : Seen). x.chief) e ∙ c.requires.new.0, ap (λ (x : Seen). x.given) e)
+
+pub returns-clause-own : goal.returns-clause-own
+returns-clause-own c =
+    let n = c.split_in-seat.ensures.new in
+    let e = c.split_in-seat.ensures.whole.1 in
+    let of = c.requires.of in (
+      (
+        (n.0 ∙ of.0.0, ap (λ (x : TableSeen). x.key) e ∙ of.0.1, ap (λ (x : TableSeen). x.heard_tags) e, ap is_bare n.1),
+        ap (λ (x : Seen). x.key) n.2 ∙ of.1,
+        ap (λ (x : Seen). x.heard_tags) n.2,
+      ),
+      ap (λ (x : Seen). has_tag c.args.tag x.tags) n.2 ∙ own_tag c.args.tag,
+    )
+
+pub returns-clause-sees : goal.returns-clause-sees
+returns-clause-sees c = ap floor_seen c.split_in-seat.ensures.new.2
+
 pub returns-clause-none : goal.returns-clause-none
 returns-clause-none c =
-    let v = c.args.pass.now.seat.me.0 in
-    subst (λ (x : Seen). NothingOf c.args.tag (floor_seen x)) (sym (ap (λ m. m.0) c.split-seat.ensures.new.1))
-    (nothing_of v.key (c.args.tag ∷ []) c.args.tag v.seen c.args.pass.now.done c.split-seat.ensures.none)
+    let v = seen_by c.args.pass.now in
+    subst (λ (x : Seen). NothingOf c.args.tag (floor_seen x)) (sym c.split_in-seat.ensures.new.2)
+    (nothing_of v.key (c.args.tag ∷ []) c.args.tag v.seen c.args.pass.now.done c.split_in-seat.ensures.none)

@@ -15,7 +15,7 @@ loop-tag-preserved g c =
     record {
       same = c.split.ensures.same ∙ i.same;
       rest = subst (λ (a : ForestSeatAnchor). NobodyFrom (c.loop-tag.tag + 1) (forest_may_act a)) (sym c.split.ensures.gives)
-          (nobody_more old.pass.seat.me.0.chief old.pass.seat.me.0.given c.loop-tag.tag i.rest);
+          (nobody_more (seen_by old.pass).chief (seen_by old.pass).given c.loop-tag.tag i.rest);
       count = counted c.loop-tag.seats.items c.push.new.self.items c.loop-tag.tag c.split.result c.in_ok-push.ensures.items i.count;
       seats = job_seats_more c.loop-tag.seats.items c.push.new.self.items c.loop-tag.tag c.split.result (λ s. floor_seen (seen_by s.pass))
           main c.in_ok-push.ensures.items i.count i.seats

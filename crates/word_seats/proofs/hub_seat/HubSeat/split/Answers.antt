@@ -1,9 +1,10 @@
+use Rattle.cell_words.specs.Hubs.{seen_by}
 use Rattle.word_seats.proofs.Given.{ungiven}
 use Rattle.word_seats.proofs.NewSeats.{same_floor, hub_gives, new_floor}
 use Rattle.word_seats.proofs.hub_seat.HubSeat.split.Goals as goal
 
 pub split-requires-clause-new : goal.split-requires-clause-new
-split-requires-clause-new g c = ungiven c.args.self.now.pass.seat.me.0.chief c.args.self.now.pass.seat.me.0.given c.args.tag c.requires
+split-requires-clause-new g c = ungiven (seen_by c.args.self.now.pass).chief (seen_by c.args.self.now.pass).given c.args.tag c.requires
 
 pub returns-clause-same : goal.returns-clause-same
 returns-clause-same g c = same_floor c.args.self.now.hub.now c.args.self.now.pass c.split.new.pass c.split.ensures.same c.split.ensures.tags

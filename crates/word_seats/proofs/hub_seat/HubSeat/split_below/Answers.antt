@@ -1,5 +1,6 @@
 use Rattle.std.proofs.Common.{◌∙◌, ◌+◌, sym, subst}
 use Rattle.channel_model.specs.Floors.{Floor}
+use Rattle.cell_words.specs.Hubs.{seen_by}
 use Rattle.cell_calls.specs.HubFloors.{hub_floor}
 use Rattle.word_seats.specs.Seats.{hub_may_act, NobodyFrom, IsNewFloor}
 use Rattle.word_seats.specs.declared.hub_seat.HubSeatAnchor.{HubSeatAnchor}
@@ -14,7 +15,7 @@ loop-tag-preserved g c =
     record {
       same = c.split.ensures.same ∙ i.same;
       rest = subst (λ (a : HubSeatAnchor). NobodyFrom (c.loop-tag.tag + 1) (hub_may_act a)) (sym c.split.ensures.gives)
-          (nobody_more old.pass.seat.me.0.chief old.pass.seat.me.0.given c.loop-tag.tag i.rest);
+          (nobody_more (seen_by old.pass).chief (seen_by old.pass).given c.loop-tag.tag i.rest);
       count = counted c.loop-tag.seats.items c.push.new.self.items c.loop-tag.tag c.split.result c.in_ok-push.ensures.items i.count;
       seats = seats_more c.loop-tag.seats.items c.push.new.self.items c.loop-tag.tag c.split.result (λ s. hub_floor s.hub.now s.pass) main
           c.in_ok-push.ensures.items i.count i.seats

@@ -11,7 +11,7 @@
 //! The numbers 0 and 7 are no Job words: 0 is a row that nobody claimed, and 7 one that was claimed and has no word yet.
 
 ghost use Rattle.std.specs.Prelude.{◌≡◌, ◌≢◌, MatchOption};
-ghost use Rattle.job_words.specs.Rows.{state_code};
+ghost use Rattle.word_rules.specs.Rows.{state_code};
 
 use co_base::Row;
 use job_model::JobState;
@@ -58,7 +58,7 @@ fn state_of_code(code: u64) -> Option<JobState>
 
 impl JobWord {
     ghost use Rattle.std.specs.Prelude.{◌≡◌, ◌≢◌, MatchOption};
-    ghost use Rattle.job_words.specs.Rows.{job_code, IsNarrow};
+    ghost use Rattle.word_rules.specs.Rows.{job_code, IsNarrow};
 
     /// The number of a word.
     pub fn pack(self) -> u64

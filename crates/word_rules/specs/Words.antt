@@ -1,5 +1,5 @@
 -- The words that a history gives.
-use Rattle.std.specs.Prelude.{◌≡◌, ℕ, zero, suc, ◌+◌, ◌*◌, ◌/◌, ◌%◌, ◌<◌, ◌≤◌, ◌==◌, Bool, true, false, not, ◌&&◌, List, [], ◌∷◌, length, if◌then◌else◌, Option, Some, None}
+use Rattle.std.specs.Prelude.{◌≡◌, ℕ, zero, suc, ◌+◌, ◌*◌, ◌/◌, ◌%◌, ◌<◌, ◌≤◌, ◌==◌, Bool, true, false, not, List, [], ◌∷◌, length, if◌then◌else◌, Option, Some, None}
 use Rattle.co_base.specs.declared.names.WaitId.{WaitId}
 use Rattle.channel_model.specs.declared.acts.Entry.{Entry}
 use Rattle.channel_model.specs.declared.acts.Settled.{Settled}
@@ -10,14 +10,14 @@ use Rattle.channel_model.specs.declared.standing.Resolution.TheVariants as resol
 use Rattle.channel_model.specs.Channels.{Shape, Wait, places_at, kind_at, spurns, same_wait}
 use Rattle.channel_model.specs.Histories.{replay}
 use Rattle.channel_model.specs.Laws.{NoneBelow, IsResolvedAs}
-use Rattle.cell_words.specs.declared.cell_word.CellState.{CellState}
-use Rattle.cell_words.specs.declared.cell_word.CellState.TheVariants as cell
-use Rattle.cell_words.specs.declared.cell_word.CellWord.{CellWord}
-use Rattle.cell_words.specs.declared.wait_word.ResolvedBy.{ResolvedBy}
-use Rattle.cell_words.specs.declared.wait_word.ResolvedBy.TheVariants as by
-use Rattle.cell_words.specs.declared.wait_word.WaitWord.{WaitWord}
-use Rattle.cell_words.specs.Cells.{Cell, free, receiver, offer, buffered, emptied, closed_by, voided_by, spot, cell_of}
-use Rattle.cell_words.specs.Codes.{packed_cell, packed_wait}
+use Rattle.word_rules.specs.declared.cell_word.CellState.{CellState}
+use Rattle.word_rules.specs.declared.cell_word.CellState.TheVariants as cell
+use Rattle.word_rules.specs.declared.cell_word.CellWord.{CellWord}
+use Rattle.word_rules.specs.declared.wait_word.ResolvedBy.{ResolvedBy}
+use Rattle.word_rules.specs.declared.wait_word.ResolvedBy.TheVariants as by
+use Rattle.word_rules.specs.declared.wait_word.WaitWord.{WaitWord}
+use Rattle.word_rules.specs.Cells.{Cell, free, receiver, offer, buffered, emptied, closed_by, voided_by, spot, cell_of}
+use Rattle.word_rules.specs.Codes.{packed_cell, packed_wait}
 
 -- ---- numbers: each channel has one cell more than its places
 
@@ -42,26 +42,27 @@ cell_number shape c p = 2 * number shape c p
 abbrev pub wait_number : Shape → ℕ → ℕ → ℕ
 wait_number shape c p = 2 * number shape c p + 1
 
--- of the two counters of a channel, of its run of kept places, of its count of elements that were put with room, and of the places of
--- which is decided whether their element was kept; a channel has 16 words for them, of which the others say nothing
+-- of the two counters of a channel, of its run of kept places, and of the places of which is decided whether their element was kept; a
+-- channel has 16 words for them, of which the others say nothing
 abbrev pub send_number : Shape → ℕ → ℕ
 send_number shape c = 2 * cells_in shape + 16 * c
 
 abbrev pub run_number : Shape → ℕ → ℕ
 run_number shape c = 2 * cells_in shape + 16 * c + 1
 
-abbrev pub room_number : Shape → ℕ → ℕ
-room_number shape c = 2 * cells_in shape + 16 * c + 2
-
 abbrev pub decided_number : Shape → ℕ → ℕ
-decided_number shape c = 2 * cells_in shape + 16 * c + 3
+decided_number shape c = 2 * cells_in shape + 16 * c + 2
 
 abbrev pub receive_number : Shape → ℕ → ℕ
 receive_number shape c = 2 * cells_in shape + 16 * c + 8
 
+-- of the mark of a place
+abbrev pub mark_number : Shape → ℕ → ℕ → ℕ
+mark_number shape c p = 2 * cells_in shape + 16 * length shape + number shape c p
+
 -- one word more says nothing, so that even a hub without channels has a word 0 to load where passes meet
 abbrev pub word_count : Shape → ℕ
-word_count shape = 2 * cells_in shape + 16 * length shape + 1
+word_count shape = 3 * cells_in shape + 16 * length shape + 1
 
 -- a place of the channel, or its end
 abbrev pub IsCell : Shape → ℕ → ℕ → Type 0
@@ -193,40 +194,6 @@ WereKept log c from to = (p : ℕ) → from ≤ p → p < to → WasKept (replay
 abbrev pub IsKeptRun : List Entry → ℕ → ℕ → Type 0
 IsKeptRun log c n = WereKept log c (n % 4294967296) (n / 4294967296)
 
--- ---- elements that were put with room
-
--- an element was put in this cell; it may have been removed since
-abbrev pub holds_put : Cell → Bool
-holds_put free = false
-holds_put (receiver who w k) = false
-holds_put (offer v who w k) = false
-holds_put (buffered v) = true
-holds_put (emptied v) = true
-holds_put (closed_by v) = false
-holds_put (voided_by v) = false
-
--- and it was not one too many when it was put, so that nobody spurns it
-abbrev pub had_room : Shape → List Entry → ℕ → ℕ → Bool
-had_room shape log c p = holds_put (cell_of log c p) && not (spurns (kind_at shape c) ((replay log).stood c p))
-
--- what a place adds to a count
-abbrev pub one_if : Bool → ℕ
-one_if true = 1
-one_if false = 0
-
--- at how many of so many places from one on
-abbrev pub counted : (ℕ → Bool) → ℕ → ℕ → ℕ
-counted f from zero = 0
-counted f from (suc n) = counted f from n + one_if (f (from + n))
-
--- at least so many elements were put with room at the places from one on, and before another
-abbrev pub WerePut : Shape → List Entry → ℕ → ℕ → ℕ → ℕ → Type 0
-WerePut shape log c from to count = (d : ℕ) → to ≡ from + d → count ≤ counted (had_room shape log c) from d
-
--- the number n says how many, from which place on, and before which
-abbrev pub IsRoomCount : Shape → List Entry → ℕ → ℕ → Type 0
-IsRoomCount shape log c n = WerePut shape log c ((n / 2097152) % 2097152) (n / 4398046511104) (n % 2097152)
-
 -- ---- places of which is decided whether their element was kept
 
 -- whether an offer was kept, by how its wait was resolved
@@ -246,18 +213,32 @@ abbrev pub kept_of : ℕ → Option Wait → Option Bool
 kept_of k None = None
 kept_of k (Some x) = kept_by k x.resolved
 
--- whether the element of this cell was kept; nothing while its offer waits, or where there is none
-abbrev pub kept_in : (WaitId → Option Wait) → Cell → Option Bool
-kept_in waits free = None
-kept_in waits (receiver who w k) = None
-kept_in waits (offer v who w k) = kept_of k (waits w)
-kept_in waits (buffered v) = Some true
-kept_in waits (emptied v) = Some true
-kept_in waits (closed_by v) = None
-kept_in waits (voided_by v) = None
+-- whether an element that was put was kept, as long as it was not removed: one that was too many may be spurned
+abbrev pub kept_put : Bool → Option Bool
+kept_put true = None
+kept_put false = Some true
 
-abbrev pub fate : List Entry → ℕ → ℕ → Option Bool
-fate log c p = kept_in (replay log).waits (cell_of log c p)
+-- whether the element of this cell was kept, by whether it was one too many; nothing while its offer waits, or where there is none
+abbrev pub kept_in : Bool → (WaitId → Option Wait) → Cell → Option Bool
+kept_in over waits free = None
+kept_in over waits (receiver who w k) = None
+kept_in over waits (offer v who w k) = kept_of k (waits w)
+kept_in over waits (buffered v) = kept_put over
+kept_in over waits (emptied v) = Some (not over)
+kept_in over waits (closed_by v) = None
+kept_in over waits (voided_by v) = None
+
+-- the element at this place was one too many when it was put
+abbrev pub was_over : Shape → List Entry → ℕ → ℕ → Bool
+was_over shape log c p = spurns (kind_at shape c) ((replay log).stood c p)
+
+abbrev pub fate : Shape → List Entry → ℕ → ℕ → Option Bool
+fate shape log c p = kept_in (was_over shape log c p) (replay log).waits (cell_of log c p)
+
+-- what a place adds to a count
+abbrev pub one_if : Bool → ℕ
+one_if true = 1
+one_if false = 0
 
 -- a count goes on with one place, if both are decided
 abbrev pub add_kept : Option Bool → Option ℕ → Option ℕ
@@ -271,17 +252,27 @@ kept_among f from zero = Some 0
 kept_among f from (suc n) = add_kept (f (from + n)) (kept_among f from n)
 
 -- it is decided of all places from one on, and before another, and at so many an element was kept
-abbrev pub WereDecided : List Entry → ℕ → ℕ → ℕ → ℕ → Type 0
-WereDecided log c from to count = (d : ℕ) → to ≡ from + d → kept_among (fate log c) from d ≡ Some count
+abbrev pub WereDecided : Shape → List Entry → ℕ → ℕ → ℕ → ℕ → Type 0
+WereDecided shape log c from to count = (d : ℕ) → to ≡ from + d → kept_among (fate shape log c) from d ≡ Some count
 
 -- the number n says of which places, and how many
-abbrev pub AreDecided : List Entry → ℕ → ℕ → Type 0
-AreDecided log c n = WereDecided log c ((n / 2097152) % 2097152) (n / 4398046511104) (n % 2097152)
+abbrev pub AreDecided : Shape → List Entry → ℕ → ℕ → Type 0
+AreDecided shape log c n = WereDecided shape log c ((n / 2097152) % 2097152) (n / 4398046511104) (n % 2097152)
+
+-- the number n of a mark says whether the element was kept; nothing at first
+abbrev pub mark_told : ℕ → Option Bool
+mark_told zero = None
+mark_told (suc zero) = Some true
+mark_told (suc (suc n)) = Some false
+
+-- and says the truth
+abbrev pub IsMark : Shape → List Entry → ℕ → ℕ → ℕ → Type 0
+IsMark shape log c p n = (b : Bool) → mark_told n ≡ Some b → fate shape log c p ≡ Some b
 
 -- ---- all words
 
 -- the word i is n after this history; a counter is at most the number of places that were given out, each place of a run
--- was kept once, as many elements as a count says were put with room, and at as many places as a word says an element was kept
+-- was kept once, at as many places as a word says an element was kept, and so it was where a mark says so
 pub record Fits (shape : Shape) (log : List Entry) (i n : ℕ) : Type 0 where
   pub cell : (c p : ℕ) → c < length shape → p ≤ places_at shape c → i ≡ cell_number shape c p
       → (n ≡ cell_code shape c p (cell_of log c p)) × CellFits shape (cell_of log c p)
@@ -290,5 +281,9 @@ pub record Fits (shape : Shape) (log : List Entry) (i n : ℕ) : Type 0 where
   pub sends : (c : ℕ) → c < length shape → i ≡ send_number shape c → NoneBelow n 0 ((replay log).channels c)
   pub receives : (c : ℕ) → c < length shape → i ≡ receive_number shape c → NoneBelow 0 n ((replay log).channels c)
   pub run : (c : ℕ) → c < length shape → i ≡ run_number shape c → IsKeptRun log c n
-  pub room : (c : ℕ) → c < length shape → i ≡ room_number shape c → IsRoomCount shape log c n
-  pub decided : (c : ℕ) → c < length shape → i ≡ decided_number shape c → AreDecided log c n
+  pub decided : (c : ℕ) → c < length shape → i ≡ decided_number shape c → AreDecided shape log c n
+  pub mark : (c p : ℕ) → c < length shape → p ≤ places_at shape c → i ≡ mark_number shape c p → IsMark shape log c p n
+
+-- the tag under which an entry was made
+abbrev pub maker : Entry → ℕ
+maker e = e.who

@@ -1,11 +1,11 @@
 -- The number of a word.
 use Rattle.std.specs.Prelude.{ℕ, ◌+◌, ◌*◌, ◌<◌, Bool, true, false}
-use Rattle.cell_words.specs.declared.cell_word.CellState.{CellState}
-use Rattle.cell_words.specs.declared.cell_word.CellState.TheVariants as cell
-use Rattle.cell_words.specs.declared.cell_word.CellWord.{CellWord}
-use Rattle.cell_words.specs.declared.wait_word.ResolvedBy.{ResolvedBy}
-use Rattle.cell_words.specs.declared.wait_word.ResolvedBy.TheVariants as by
-use Rattle.cell_words.specs.declared.wait_word.WaitWord.{WaitWord}
+use Rattle.word_rules.specs.declared.cell_word.CellState.{CellState}
+use Rattle.word_rules.specs.declared.cell_word.CellState.TheVariants as cell
+use Rattle.word_rules.specs.declared.cell_word.CellWord.{CellWord}
+use Rattle.word_rules.specs.declared.wait_word.ResolvedBy.{ResolvedBy}
+use Rattle.word_rules.specs.declared.wait_word.ResolvedBy.TheVariants as by
+use Rattle.word_rules.specs.declared.wait_word.WaitWord.{WaitWord}
 
 abbrev pub bit : Bool → ℕ
 bit false = 0

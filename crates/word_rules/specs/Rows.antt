@@ -10,8 +10,8 @@ use Rattle.job_model.specs.declared.acts.End.TheVariants as ends
 use Rattle.job_model.specs.Trees.{Job, Tree, living}
 use Rattle.job_model.specs.Effects.{first_state, state_after_body}
 use Rattle.job_model.specs.Families.{newest, older_sibling}
-use Rattle.job_words.specs.declared.job_word.JobWord.{JobWord}
-use Rattle.job_words.specs.declared.link_word.LinkWord.{LinkWord}
+use Rattle.word_rules.specs.declared.job_word.JobWord.{JobWord}
+use Rattle.word_rules.specs.declared.link_word.LinkWord.{LinkWord}
 
 -- ---- numbers
 

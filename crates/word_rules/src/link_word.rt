@@ -26,7 +26,7 @@ pub struct LinkWord {
 
 impl LinkWord {
     ghost use Rattle.std.specs.Prelude.{◌≡◌, ◌≢◌, ◌<◌, ◌≤◌, MatchOption};
-    ghost use Rattle.job_words.specs.Rows.{link_code, IsNarrowLink};
+    ghost use Rattle.word_rules.specs.Rows.{link_code, IsNarrowLink};
 
     /// The number of a word.
     pub fn pack(self) -> u64

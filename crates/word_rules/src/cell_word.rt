@@ -10,7 +10,7 @@
 //! | 32 to 63 | the element, or the close value |
 
 ghost use Rattle.std.specs.Prelude.{◌≡◌, ◌≢◌, MatchOption};
-ghost use Rattle.cell_words.specs.Codes.{state_code};
+ghost use Rattle.word_rules.specs.Codes.{state_code};
 
 use co_base::Value;
 
@@ -74,7 +74,7 @@ fn state_of_code(code: u64) -> Option<CellState>
 
 impl CellWord {
     ghost use Rattle.std.specs.Prelude.{◌≡◌, ◌≢◌, MatchOption};
-    ghost use Rattle.cell_words.specs.Codes.{packed_cell, IsNarrowCell};
+    ghost use Rattle.word_rules.specs.Codes.{packed_cell, IsNarrowCell};
 
     /// The number of a word.
     pub fn pack(self) -> u64

@@ -12,12 +12,12 @@ use Rattle.job_model.specs.Effects.{after}
 use Rattle.job_model.specs.Needs.{Needs}
 use Rattle.job_model.specs.Laws.{HasFamilies}
 use Rattle.job_model.specs.Families.{newest, children_of}
-use Rattle.job_words.specs.declared.job_word.JobWord.{JobWord}
-use Rattle.job_words.specs.declared.link_word.LinkWord.{LinkWord}
-use Rattle.job_words.specs.declared.size.ForestSize.{ForestSize}
-use Rattle.job_words.specs.declared.deed.Deed.{Deed}
-use Rattle.job_words.specs.declared.deed.Deed.TheVariants.{Act, Claim, StoreLink, StoreJob}
-use Rattle.job_words.specs.Rows.{job_code, link_code, row_code, new_word, new_link, job_at, link_at, IsNarrowLink}
+use Rattle.word_rules.specs.declared.job_word.JobWord.{JobWord}
+use Rattle.word_rules.specs.declared.link_word.LinkWord.{LinkWord}
+use Rattle.word_rules.specs.declared.size.ForestSize.{ForestSize}
+use Rattle.word_rules.specs.declared.deed.Deed.{Deed}
+use Rattle.word_rules.specs.declared.deed.Deed.TheVariants.{Act, Claim, StoreLink, StoreJob}
+use Rattle.word_rules.specs.Rows.{job_code, link_code, row_code, new_word, new_link, job_at, link_at, IsNarrowLink}
 
 -- the numbers of coroutines and of rows, as the model has them
 abbrev pub shape_of : ForestSize → Shape

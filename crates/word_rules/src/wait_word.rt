@@ -12,7 +12,7 @@
 //! So the word of a wait that stands is 0.
 
 ghost use Rattle.std.specs.Prelude.{◌≡◌, ◌<◌};
-ghost use Rattle.cell_words.specs.Codes.{resolver_code};
+ghost use Rattle.word_rules.specs.Codes.{resolver_code};
 
 use co_base::Value;
 
@@ -75,7 +75,7 @@ fn resolver_of_code(code: u64) -> ResolvedBy
 
 impl WaitWord {
     ghost use Rattle.std.specs.Prelude.{◌≡◌, ◌≢◌, MatchOption};
-    ghost use Rattle.cell_words.specs.Codes.{packed_wait, IsNarrowWait};
+    ghost use Rattle.word_rules.specs.Codes.{packed_wait, IsNarrowWait};
 
     /// The number of a word.
     pub fn pack(self) -> u64
