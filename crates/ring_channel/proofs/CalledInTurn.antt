@@ -1,5 +1,5 @@
 -- Who calls, and who waits: what several steps come to.
-use Rattle.std.specs.Prelude.{◌≡◌, ℕ, ◌%◌, Bool, true, false, List, [], ◌∷◌, ◌++◌, Option, Some, None}
+use Rattle.std.specs.Prelude.{◌≡◌, ℕ, ◌%◌, Bool, true, false, List, [], ◌∷◌, ◌++◌, Option, Some, None, refl}
 use Rattle.std.proofs.Common.{sym, arith, eqb, eq-eqb}
 use mathlib.Core.List.{IsPrefix}
 use Rattle.ring_channel.specs.declared.act.RingSide.{RingSide}
@@ -9,7 +9,9 @@ use Rattle.ring_channel.specs.declared.answers.Called.{Called}
 use Rattle.ring_channel.specs.declared.answers.Called.TheVariants.{Nobody, One, All}
 use Rattle.ring_channel.specs.Seen.{Sat}
 use Rattle.ring_channel.specs.Looks.{seen_if, last_of, CallSteps, Does, Looked, LooksOn, Named, NamesAll, MayName, Waited}
-use Rattle.ring_channel.proofs.WaitsTold.{does_then, moment_later}
+use Rattle.ring_channel.specs.Answers.{AtMoment}
+use Rattle.ring_channel.specs.Served.{MayGo}
+use Rattle.ring_channel.proofs.WaitsTold.{does_then, moment_later, moment_until}
 
 even_of : (t : ℕ) → (t % 2 ≡ 1 → ⊥) → t % 2 ≡ 0
 even_of t ne = omega (arith, ne)
@@ -23,20 +25,25 @@ module _ {T : Type 0} where
 
   -- a look at the tail, a load, and a look at a slot
   pub looked_by : (n : ℕ) (d : RingSide) (b c : Bool) (a e f r : Sat T) → b ≡ true → Does n d (seen_if b GoesOn) a e → Does n d [] e f
-      → Does n d (seen_if c NothingThere) f r → Looked n d a r c
-  looked_by n d true true a e f r is x y z = does_then n d (GoesOn ∷ []) (NothingThere ∷ []) a f r
+      → Does n d (seen_if c NothingThere) f r → (c ≡ false → AtMoment n (λ s. MayGo n s d) f.0 r.0) → Looked n d a r c
+  looked_by n d true true a e f r is x y z go = does_then n d (GoesOn ∷ []) (NothingThere ∷ []) a f r
       (does_then n d (GoesOn ∷ []) [] a e f x y) z
-  looked_by n d true false a e f r is x y z = (
+  looked_by n d true false a e f r is x y z go = let first = does_then n d (GoesOn ∷ []) [] a e f x y in (
     true,
-    does_then n d (GoesOn ∷ []) [] a f r (does_then n d (GoesOn ∷ []) [] a e f x y) z,
+    does_then n d (GoesOn ∷ []) [] a f r first z,
+    moment_later n (λ s. MayGo n s d) a.0 f.0 r.0 (does_on n d (GoesOn ∷ []) a f first) (go refl),
   )
-  looked_by n d false c a e f r is x y z = cc
+  looked_by n d false c a e f r is x y z go = cc
 
   pub looked_at : (n : ℕ) (d : RingSide) (b c : Bool) (a e r : Sat T) → b ≡ true → Does n d (seen_if b GoesOn) a e
-      → Does n d (seen_if c NothingThere) e r → Looked n d a r c
-  looked_at n d true true a e r is x z = does_then n d (GoesOn ∷ []) (NothingThere ∷ []) a e r x z
-  looked_at n d true false a e r is x z = (true, does_then n d (GoesOn ∷ []) [] a e r x z)
-  looked_at n d false c a e r is x z = cc
+      → Does n d (seen_if c NothingThere) e r → (c ≡ false → AtMoment n (λ s. MayGo n s d) e.0 r.0) → Looked n d a r c
+  looked_at n d true true a e r is x z go = does_then n d (GoesOn ∷ []) (NothingThere ∷ []) a e r x z
+  looked_at n d true false a e r is x z go = (
+    true,
+    does_then n d (GoesOn ∷ []) [] a e r x z,
+    moment_later n (λ s. MayGo n s d) a.0 e.0 r.0 (does_on n d (GoesOn ∷ []) a e x) (go refl),
+  )
+  looked_at n d false c a e r is x z go = cc
 
   names_later : (n : ℕ) (d : RingSide) (called : Called) (a b c : Sat T) → IsPrefix a.0.seen b.0.seen → NamesAll n d called b.0 c.0
       → NamesAll n d called a.0 c.0
@@ -111,7 +118,10 @@ module _ {T : Type 0} where
   pub waits_not : (n : ℕ) (d : RingSide) (a b e r : Sat T) (c : Bool) → c ≡ false → Does n d (Stand ∷ []) a b → Looked n d b e c
       → Does n d (Leave ∷ []) e r → Waited n d a r false
   waits_not n d a b e r true is x y z = cc
-  waits_not n d a b e r false is x y z = (
-    y.0,
-    does_then n d (Stand ∷ seen_if y.0 GoesOn) (Leave ∷ []) a e r (does_then n d (Stand ∷ []) (seen_if y.0 GoesOn) a b e x y.1) z,
-  )
+  waits_not n d a b e r false is x y z = record {
+    stood = b;
+    stands = x;
+    may_go = moment_until n (λ s. MayGo n s d) b.0 e.0 r.0 (does_on n d (Leave ∷ []) e r z) y.2;
+    seen = y.0;
+    leaves = does_then n d (seen_if y.0 GoesOn) (Leave ∷ []) b e r y.1 z;
+  }

@@ -15,9 +15,9 @@ use Rattle.ring_channel.specs.declared.act.WaitStep.{WaitStep}
 use Rattle.ring_channel.specs.declared.act.WaitStep.TheVariants.{Stand, Leave, Call, CallAll, NoneWaits, NothingThere, GoesOn}
 use Rattle.ring_channel.specs.declared.answers.Called.{Called}
 use Rattle.ring_channel.specs.declared.answers.Called.TheVariants.{Nobody, One, All}
-use Rattle.ring_channel.specs.Rings.{State, Line, put, cleared, owes_one, owes_end, line_after, after, state_from, state_of, MayWait, Needs, LegalFrom, Legal, maker}
+use Rattle.ring_channel.specs.Rings.{State, Line, put, cleared, owes_one, owes_end, line_after, with_line, after, state_from, state_of, MayWait, Needs, LegalFrom, Legal, maker}
 use Rattle.ring_channel.specs.Seen.{entry_of}
-use Rattle.ring_channel.specs.Looks.{seen_if, last_of, CallSteps, entries_on, HasDone, HasDoneIfWaits}
+use Rattle.ring_channel.specs.Looks.{other, seen_if, last_of, CallSteps, entries_on, HasDone, HasDoneIfWaits}
 use Rattle.ring_channel.proofs.Bits.{cleared_here}
 use Rattle.ring_channel.proofs.HistoriesGoOn.{put_here, put_else, state_more, Legal-rest, apart_first}
 use Rattle.ring_channel.proofs.MayWait.{line_here}
@@ -133,6 +133,10 @@ end_kept half who t l ne h = (h.0, put_else t who true l.ends ne ∙ h.1)
 end_kept done who t l ne h = (h.0, h.1, put_else t who true l.ends ne ∙ h.2)
 end_kept awake who t l ne h = λ b. put_else t who true l.ends ne ∙ h b
 end_kept stands who t l ne h = λ b. ((h b).0, put_else t who true l.ends ne ∙ (h b).1)
+
+other_line : (d : RingSide) (l : Line) (ls : RingSide → Line) → with_line (other d) l ls d ≡ ls d
+other_line Receive l ls = refl
+other_line Send l ls = refl
 
 -- what an own step makes of a level
 abbrev Lifts : (T : Type 0) → ℕ → ℕ → RingSide → WaitStep → Level → Level → Type 0
@@ -330,3 +334,46 @@ module _ {T : Type 0} where
       → entries_of maker who more ≡ entries_on who d (Stand ∷ GoesOn ∷ NothingThere ∷ []) → HasDoneIfWaits (state_of n (log ++ more)) d who
   stands_done n who d log more lt k mine = subst (λ z. HasDoneIfWaits z d who) (sym (state_more n log more))
       (stands_from n who d (state_of n log) more lt (Legal-rest n log more k).1 mine)
+
+  -- ---- what it does on the other side
+
+  goes_past : (n who : ℕ) (v : Level) (d : RingSide) (w : WaitStep) (s : State T) (es rest : List (RingEntry T)) → who < 64
+      → LegalFrom n s es → entries_of maker who es ≡ entry_of who (Waiting (other d) w) ∷ rest → At v who (s.lines d)
+      → Gone n who v d s es rest
+  unfolding LegalFrom state_from
+  goes_past n who v d w s [] rest lt k is h = cc
+  goes_past n who v d w s (e ∷ es) rest lt k is h = by_test (e.who == who) refl is
+      (λ r q. goes_past n who v d w (after n s e.who e.act) es rest lt k.1 r q)
+    where
+      by_test : (b : Bool) → (e.who == who) ≡ b
+          → (if b then e ∷ entries_of maker who es else entries_of maker who es) ≡ entry_of who (Waiting (other d) w) ∷ rest
+          → (entries_of maker who es ≡ entry_of who (Waiting (other d) w) ∷ rest → At v who ((after n s e.who e.act).lines d)
+          → Gone n who v d (after n s e.who e.act) es rest) → Gone n who v d s (e ∷ es) rest
+      by_test true t r next = let own : e ≡ entry_of who (Waiting (other d) w) =
+          same_head e (entry_of who (Waiting (other d) w)) (entries_of maker who es) rest r in
+          record {
+            now = after n s e.who e.act;
+            more = es;
+            legal = k.1;
+            mine = same_tail e (entry_of who (Waiting (other d) w)) (entries_of maker who es) rest r;
+            same = refl;
+            at = subst (λ (x : RingEntry T). At v who ((after n s x.who x.act).lines d)) (sym own)
+                (subst (At v who) (sym (other_line d (line_after who w (s.lines (other d))) s.lines)) h);
+          }
+      by_test false t r next =
+          let g = next r (kept v n s who e.who d e.act lt k.0 (λ same. let z : true ≡ false = sym (eq-eqb e.who who same) ∙ t in cc) h) in
+          record { now = g.now; more = g.more; legal = g.legal; mine = g.mine; same = g.same; at = g.at }
+
+  stays_past : (n who : ℕ) (v : Level) (d : RingSide) (ws : List WaitStep) (s : State T) (es : List (RingEntry T)) → who < 64
+      → LegalFrom n s es → entries_of maker who es ≡ entries_on who (other d) ws → At v who (s.lines d)
+      → At v who ((state_from n s es).lines d)
+  stays_past n who v d [] s es lt k mine h = stays n who v d s es lt k mine h
+  stays_past n who v d (w ∷ ws) s es lt k mine h =
+      let g = goes_past n who v d w s es (entries_on who (other d) ws) lt k mine h in
+      subst (λ z. At v who (z.lines d)) (sym g.same) (stays_past n who v d ws g.now g.more lt g.legal g.mine g.at)
+
+  pub still_done : (n who : ℕ) (d : RingSide) (ws : List WaitStep) (log more : List (RingEntry T)) → who < 64 → Legal n (log ++ more)
+      → entries_of maker who more ≡ entries_on who (other d) ws → HasDone (state_of n log) d who
+      → HasDone (state_of n (log ++ more)) d who
+  still_done n who d ws log more lt k mine h = subst (λ z. HasDone z d who) (sym (state_more n log more))
+      (stays_past n who done d ws (state_of n log) more lt (Legal-rest n log more k).1 mine h)

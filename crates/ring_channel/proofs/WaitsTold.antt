@@ -87,18 +87,25 @@ module _ {T : Type 0} where
     held = sym (l.found.waits d at);
   }
 
+  prefix_trans : (xs ys zs : List (RingEntry T)) → IsPrefix xs ys → IsPrefix ys zs → IsPrefix xs zs
+  prefix_trans xs ys zs a b = (a.0 ++ b.0, sym (append_assoc xs a.0 b.0) ∙ ap (λ l. l ++ b.0) a.1 ∙ b.1)
+
   -- what was so at a moment was so in a longer time
   pub moment_later : (n : ℕ) (P : State T → Type 0) (u v w : Seen T) → IsPrefix u.seen v.seen → AtMoment n P v w → AtMoment n P u w
   moment_later n P u v w h m = record {
     moment = m.moment;
     since = prefix_trans u.seen v.seen m.moment h m.since;
     until = m.until;
-    held =
-        m.held;
+    held = m.held;
   }
-    where
-      prefix_trans : (xs ys zs : List (RingEntry T)) → IsPrefix xs ys → IsPrefix ys zs → IsPrefix xs zs
-      prefix_trans xs ys zs a b = (a.0 ++ b.0, sym (append_assoc xs a.0 b.0) ∙ ap (λ l. l ++ b.0) a.1 ∙ b.1)
+
+  pub moment_until : (n : ℕ) (P : State T → Type 0) (u v w : Seen T) → IsPrefix v.seen w.seen → AtMoment n P u v → AtMoment n P u w
+  moment_until n P u v w h m = record {
+    moment = m.moment;
+    since = m.since;
+    until = prefix_trans m.moment v.seen w.seen m.until h;
+    held = m.held;
+  }
 
   -- a tail that was looked at
   pub tail_if : (b : Bool) (n found : ℕ) (d : RingSide) (a r : Sat T) → MadeIf b n 0 found d GoesOn a r → found / 2 ≡ (now_in n r.0).puts

@@ -15,6 +15,7 @@ use Rattle.ring_channel.specs.Rings.{State, Legal, maker}
 use Rattle.ring_channel.specs.Tables.{Fits}
 use Rattle.ring_channel.specs.Seen.{Seen, Sat, own_tag, entry_of, IsIdle}
 use Rattle.ring_channel.specs.Answers.{Adds, AtMoment, CloseAnswer}
+use Rattle.ring_channel.specs.Served.{MayGo}
 
 -- the step, if this holds
 abbrev pub seen_if : Bool → WaitStep → List WaitStep
@@ -33,6 +34,11 @@ pub data CallSteps : Called → List WaitStep → Type 0 where
   nobody_waits : CallSteps Nobody (NoneWaits ∷ [])
   nothing_there : CallSteps Nobody (Leave ∷ GoesOn ∷ NothingThere ∷ [])
   it_calls : (seen : Bool) (called : Called) → CallSteps called (Leave ∷ seen_if seen GoesOn ++ last_of called ∷ [])
+
+-- the other side
+abbrev pub other : RingSide → RingSide
+other Receive = Send
+other Send = Receive
 
 module _ {T : Type 0} where
   -- the entries of these steps on a side
@@ -78,10 +84,10 @@ module _ {T : Type 0} where
   NamesAll n d (One t) v w = Unit {0}
   NamesAll n d (All m) v w = Found n d m v w
 
-  -- it was seen that there is nothing for one who waits; or not
+  -- it was seen that there is nothing for one who waits; or, at a moment, there was something for it, or the ring was closed
   abbrev pub Looked : ℕ → RingSide → Sat T → Sat T → Bool → Type 0
   Looked n d a r true = Does n d (GoesOn ∷ NothingThere ∷ []) a r
-  Looked n d a r false = (seen : Bool) × Does n d (seen_if seen GoesOn) a r
+  Looked n d a r false = (seen : Bool) × Does n d (seen_if seen GoesOn) a r × AtMoment n (λ s. MayGo n s d) a.0 r.0
 
   -- it called so, or saw that nobody waits
   abbrev pub Named : ℕ → RingSide → Sat T → Sat T → Called → Type 0
@@ -99,10 +105,18 @@ module _ {T : Type 0} where
   MayName n d a r None = Does n d [] a r
   MayName n d a r (Some called) = Named n d a r called
 
+  -- it stood, and at a moment since then there was something for it, or the ring was closed: it waits no more
+  pub record Stood (n : ℕ) (d : RingSide) (a r : Sat T) : Type 0 where
+    pub stood : Sat T
+    pub stands : Does n d (Stand ∷ []) a stood
+    pub may_go : AtMoment n (λ s. MayGo n s d) stood.0 r.0
+    pub seen : Bool
+    pub leaves : Does n d (seen_if seen GoesOn ++ Leave ∷ []) stood r
+
   -- it waits; or it waited for a moment
   abbrev pub Waited : ℕ → RingSide → Sat T → Sat T → Bool → Type 0
   Waited n d a r true = Does n d (Stand ∷ GoesOn ∷ NothingThere ∷ []) a r
-  Waited n d a r false = (seen : Bool) × Does n d (Stand ∷ seen_if seen GoesOn ++ Leave ∷ []) a r
+  Waited n d a r false = Stood n d a r
 
   -- ---- answers: of a ring of n slots, by who, whose pass had seen v and now w
 
@@ -113,10 +127,18 @@ module _ {T : Type 0} where
     pub made : Adds who (entries_on who d steps) v w
     pub all : NamesAll n d called v w
 
+  -- its bit was set, and at a moment since then there was something for it, or the ring was closed: it waits no more
+  pub record StoodOnly (n who : ℕ) (d : RingSide) (v w : Seen T) : Type 0 where
+    pub stood : Seen T
+    pub stands : Adds who (entries_on who d (Stand ∷ [])) v stood
+    pub may_go : AtMoment n (λ s. MayGo n s d) stood w
+    pub seen : Bool
+    pub leaves : Adds who (entries_on who d (seen_if seen GoesOn ++ Leave ∷ [])) stood w
+
   -- its bit was set, and then it saw that the ring is open and that there is nothing for it: it waits; or it waits no more
-  abbrev pub WaitAnswer : ℕ → RingSide → Seen T → Seen T → Bool → Type 0
-  WaitAnswer who d v w true = Adds who (entries_on who d (Stand ∷ GoesOn ∷ NothingThere ∷ [])) v w
-  WaitAnswer who d v w false = (seen : Bool) × Adds who (entries_on who d (Stand ∷ seen_if seen GoesOn ++ Leave ∷ [])) v w
+  abbrev pub WaitAnswer : ℕ → ℕ → RingSide → Seen T → Seen T → Bool → Type 0
+  WaitAnswer n who d v w true = Adds who (entries_on who d (Stand ∷ GoesOn ∷ NothingThere ∷ [])) v w
+  WaitAnswer n who d v w false = StoodOnly n who d v w
 
   -- all who waited on a side were called
   abbrev pub AllAnswer : ℕ → ℕ → RingSide → Seen T → Seen T → ℕ → Type 0

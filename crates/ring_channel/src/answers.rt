@@ -61,3 +61,38 @@ pub struct Closing {
     /// Those who waited to send.
     pub senders: u64,
 }
+
+/// Whom a call names to be woken, of those who wait to receive and of those who wait to send.
+#[derive(Clone, Copy, Debug, PartialEq)]
+pub struct Wakes {
+    pub receivers: Called,
+    pub senders: Called,
+}
+
+/// What a receive answers that may wait.
+#[derive(Drop)]
+pub enum ReceiveOutcome<T> {
+    /// The value of this place.
+    Received { place: u64, value: T, wakes: Wakes },
+    /// It waits: it is named once there may be a value, or once the ring was closed.
+    Waits,
+    /// The ring is closed, and each value that was put was received.
+    Closed(Called),
+    /// Others came first, 2^64 - 1 times.
+    Passed,
+}
+
+/// What a send answers that may wait. A value that was not put comes back.
+#[derive(Drop)]
+pub enum SendOutcome<T> {
+    /// It was put at this place.
+    Sent { place: u64, wakes: Wakes },
+    /// It waits: it is named once there may be room, or once the ring was closed.
+    Waits(T),
+    /// The ring is closed.
+    Closed(T, Called),
+    /// The ring has reached the end of its life.
+    Spent(T, Called),
+    /// Others came first, 2^64 - 1 times.
+    Passed(T),
+}

@@ -13,7 +13,8 @@ use worded::View;
 /// The words and slots of a ring, with their memory.
 pub type RingTable<T> = Table<Option<T>, View<RingEntry<T>, u32>, u32, InRing<T>, Global>;
 
-/// A channel of owned values, on which many threads call at once, each with a pass of its own.
+/// A channel of owned values, on which many threads call at once, each with a pass of its own. With the ring its values are dropped.
+#[derive(Drop)]
 pub struct Ring<T> {
     pub(crate) table: RingTable<T>,
     pub(crate) slots: u32,

@@ -8,6 +8,7 @@ ghost use Rattle.ring_channel.specs.Rings.{cleared};
 ghost use Rattle.ring_channel.specs.Tables.{wait_word as word_of};
 ghost use Rattle.ring_channel.specs.Seen.{IsTable, IsSeated, own_tag, now_in};
 ghost use Rattle.ring_channel.specs.Answers.{AtMoment};
+ghost use Rattle.ring_channel.specs.Served.{MayGo};
 ghost use Rattle.ring_channel.specs.Looks.{Does, Made, MadeIf, seen_if};
 
 use crate::act::{RingEntry, RingSide};
@@ -170,6 +171,7 @@ pub(crate) fn look_open_to_receive<T>(words: &RingWords<T>, seat: &mut RingSeat<
     ensures same { (seat.new.table_id ≡ seat.old.table_id) × (seat.new.id ≡ seat.old.id) }
     ensures seat { IsSeated words.now.key seat.new.me }
     ensures did { Does words.now.key Receive (seen_if (result % 2 == 0) GoesOn) seat.old.me seat.new.me }
+    ensures ended { result % 2 ≡ 1 → AtMoment words.now.key (λ s. MayGo words.now.key s Receive) seat.old.me.0 seat.new.me.0 }
     ensures tail { result / 2 ≡ (now_in words.now.key seat.new.me.0).puts }
 {
     words.load::<OpenToReceive<T>>(seat, TAIL)
@@ -191,6 +193,7 @@ pub(crate) fn look_open_to_send<T>(words: &RingWords<T>, seat: &mut RingSeat<T>)
     ensures same { (seat.new.table_id ≡ seat.old.table_id) × (seat.new.id ≡ seat.old.id) }
     ensures seat { IsSeated words.now.key seat.new.me }
     ensures did { Does words.now.key Send (seen_if (result % 2 == 0) GoesOn) seat.old.me seat.new.me }
+    ensures ended { result % 2 ≡ 1 → AtMoment words.now.key (λ s. MayGo words.now.key s Send) seat.old.me.0 seat.new.me.0 }
     ensures tail { result / 2 ≡ (now_in words.now.key seat.new.me.0).puts }
 {
     words.load::<OpenToSend<T>>(seat, TAIL)
@@ -218,6 +221,7 @@ pub(crate) fn look_first<T>(
     ensures same { (seat.new.table_id ≡ seat.old.table_id) × (seat.new.id ≡ seat.old.id) }
     ensures seat { IsSeated words.now.key seat.new.me }
     ensures did { Does words.now.key Receive (seen_if (leb result (2 * place)) NothingThere) seat.old.me seat.new.me }
+    ensures came { 2 * place < result → AtMoment words.now.key (λ s. MayGo words.now.key s Receive) seat.old.me.0 seat.new.me.0 }
 {
     words.load::<Bare<T>>(seat, SLOTS + (place % slots as u64) as usize)
 }
@@ -244,6 +248,7 @@ pub(crate) fn look_next<T>(
     ensures same { (seat.new.table_id ≡ seat.old.table_id) × (seat.new.id ≡ seat.old.id) }
     ensures seat { IsSeated words.now.key seat.new.me }
     ensures did { Does words.now.key Send (seen_if (ltb result (2 * place)) NothingThere) seat.old.me seat.new.me }
+    ensures came { 2 * place ≤ result → AtMoment words.now.key (λ s. MayGo words.now.key s Send) seat.old.me.0 seat.new.me.0 }
 {
     words.load::<Full<T>>(seat, SLOTS + (place % slots as u64) as usize)
 }

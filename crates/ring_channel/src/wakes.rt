@@ -18,7 +18,7 @@ impl<T> Ring<T> {
         requires tag { (tag ≡ tag_of pass.old) × (tag < 64) }
         ensures of { IsOf self.now pass.new }
         ensures same { SamePass pass.old pass.new }
-        ensures answer { WaitAnswer (tag_of pass.old) side (seen_by pass.old) (seen_by pass.new) result }
+        ensures answer { WaitAnswer self.now.slots (tag_of pass.old) side (seen_by pass.old) (seen_by pass.new) result }
     {
         stand_by(&self.table.shared, &mut pass.seat, self.slots, side, tag)
     }

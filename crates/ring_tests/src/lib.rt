@@ -4,8 +4,12 @@
 //! - `ring_rows`: call by call
 //! - `wait_rows`: who waits, and who is named, call by call
 //! - `rings_at_once`: by a thread that sends and one that receives
+//! - `who_sleeps`: by threads that sleep, and by a stream and a sink
+//! - `selects`, `handings`: a select over two rings, and a rendezvous
 #![tactic(auto)]
 
+#[cfg(test)]
+mod handings;
 #[cfg(test)]
 mod ring_calls;
 #[cfg(test)]
@@ -13,4 +17,8 @@ mod ring_rows;
 #[cfg(test)]
 mod rings_at_once;
 #[cfg(test)]
+mod selects;
+#[cfg(test)]
 mod wait_rows;
+#[cfg(test)]
+mod who_sleeps;

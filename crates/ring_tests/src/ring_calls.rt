@@ -6,6 +6,7 @@ use ring_channel::{Ring, RingFault, RingPass};
 use std::alloc::Global;
 
 /// The passes of the tags 0, 1 and 2.
+#[derive(Drop)]
 pub(crate) struct Three<T> {
     pub main: RingPass<T>,
     pub one: RingPass<T>,

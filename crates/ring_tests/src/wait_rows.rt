@@ -4,7 +4,10 @@ ghost use Rattle.ring_channel.specs.Passes.{IsOf, SamePass, tag_of};
 ghost use Rattle.ring_tests.specs.RingPasses.{AreThree};
 
 use crate::ring_calls::{Three, new_ring, rest_of};
-use ring_channel::{Called, Closing, Ring, RingFault, RingGot, RingPass, RingSent, RingSide};
+use ring_channel::{
+    Called, Closing, ReceiveOutcome, Ring, RingFault, RingGot, RingPass, RingSent, RingSide,
+    SendOutcome,
+};
 use std::alloc::Global;
 use std::test::Fail;
 
@@ -16,6 +19,9 @@ enum Call {
     Wait(RingSide),
     CallOn(RingSide),
     CloseAndCall,
+    SendOrWait(u32),
+    ReceiveOrWait,
+    Leave(RingSide),
 }
 
 /// By whom: the passes of the tags 0, 1 and 2.
@@ -35,6 +41,12 @@ enum Answer {
     Waits(bool),
     Names(Called),
     Closes(Closing),
+    SentAt(u64, Called, Called),
+    Got(u32, Called, Called),
+    ItWaits,
+    Back(u32),
+    Over,
+    Other,
 }
 
 /// Makes the call by this pass.
@@ -56,6 +68,25 @@ fn make(ring: &Ring<u32>, pass: &mut RingPass<u32>, tag: u32, call: Call) -> Ans
         Call::Wait(side) => Answer::Waits(ring.stand_by(pass, side, tag)),
         Call::CallOn(side) => Answer::Names(ring.call_on(pass, side, tag, 0)),
         Call::CloseAndCall => Answer::Closes(ring.close_and_call(pass)),
+        Call::SendOrWait(value) => match ring.send(pass, tag, value) {
+            SendOutcome::Sent { place, wakes } => {
+                Answer::SentAt(place, wakes.receivers, wakes.senders)
+            }
+            SendOutcome::Waits(_) => Answer::ItWaits,
+            SendOutcome::Closed(back, _) => Answer::Back(back),
+            _ => Answer::Other,
+        },
+        Call::ReceiveOrWait => match ring.receive(pass, tag) {
+            ReceiveOutcome::Received {
+                place: _,
+                value,
+                wakes,
+            } => Answer::Got(value, wakes.receivers, wakes.senders),
+            ReceiveOutcome::Waits => Answer::ItWaits,
+            ReceiveOutcome::Closed(_) => Answer::Over,
+            ReceiveOutcome::Passed => Answer::Other,
+        },
+        Call::Leave(side) => Answer::Names(ring.leave(pass, side, tag)),
     }
 }
 
@@ -160,11 +191,53 @@ const THREE_SLOTS: [(By, Call, Answer); 5] = [
     (By::Two, Call::CallOn(RECEIVE), NOBODY),
 ];
 
+const NONE: Called = Called::Nobody;
+
+/// One slot, by whole calls: the receiver 1 waits and is named by the send of 2; the sender 2 waits and is named by the receive of 1; then
+/// 1 and the first pass wait, 1 leaves as it is named, and the first pass is named in its place; the close ends it all.
+const WHOLE_CALLS: [(By, Call, Answer); 13] = [
+    (By::One, Call::ReceiveOrWait, Answer::ItWaits),
+    (
+        By::Two,
+        Call::SendOrWait(10),
+        Answer::SentAt(0, Called::One(1), NONE),
+    ),
+    (By::Two, Call::SendOrWait(11), Answer::ItWaits),
+    (
+        By::One,
+        Call::ReceiveOrWait,
+        Answer::Got(10, NONE, Called::One(2)),
+    ),
+    (By::Two, Call::SendOrWait(11), Answer::SentAt(1, NONE, NONE)),
+    (By::One, Call::ReceiveOrWait, Answer::Got(11, NONE, NONE)),
+    (By::One, Call::ReceiveOrWait, Answer::ItWaits),
+    (By::Main, Call::ReceiveOrWait, Answer::ItWaits),
+    (
+        By::Two,
+        Call::SendOrWait(12),
+        Answer::SentAt(2, Called::One(0), NONE),
+    ),
+    (By::Main, Call::Leave(RECEIVE), FIRST),
+    (By::One, Call::ReceiveOrWait, Answer::Got(12, NONE, NONE)),
+    (By::Main, Call::CloseAndCall, NOBODY_CLOSES),
+    (By::One, Call::ReceiveOrWait, Answer::Over),
+];
+
+const NOBODY_CLOSES: Answer = Answer::Closes(Closing {
+    closed: true,
+    receivers: 0,
+    senders: 0,
+});
+
 #[test]
 fn who_waits_is_named_once_there_is_something_for_it(rt: HostRuntime) -> Result<(), Fail> {
     let one = after_rows(rt.alloc(), 1, &ONE_SLOT)?;
     let two = after_rows(rt.alloc(), 2, &TWO_SLOTS)?;
     let three = after_rows(rt.alloc(), 3, &THREE_SLOTS)?;
-    assert_eq!(rt; [one, two, three], [(None, 1), (None, 0), (None, 0)]);
+    let whole = after_rows(rt.alloc(), 1, &WHOLE_CALLS)?;
+    assert_eq!(rt;
+        [one, two, three, whole],
+        [(None, 1), (None, 0), (None, 0), (None, 0)]
+    );
     Ok(())
 }

@@ -1,4 +1,5 @@
 use Rattle.std.proofs.Common.{arith, ◌%◌, ◌*◌, refl, eqb, leb}
+use Rattle.std.proofs.lemmas.Bool.{leb-false}
 use Rattle.ring_channel.specs.declared.act.RingSide.TheVariants.{Receive}
 use Rattle.ring_channel.proofs.StoreTells.{fits_now, head_few, twice_few, seated_loaded}
 use Rattle.ring_channel.proofs.CalledInTurn.{even_tail, looked_by}
@@ -11,8 +12,11 @@ overflow_mul-result g c = let few = twice_few c.load_word-place.result
     c.requires.table.0.pos c.load_word-place.ensures.loaded) in omega (arith, few)
 
 pub returns-then-tail-eq1-clause-looked : goal.returns-then-tail-eq1-clause-looked
-returns-then-tail-eq1-clause-looked g c =
-    (eqb (c.look_open_to_receive-tail.result % 2) 0, c.look_open_to_receive-tail.ensures.did)
+returns-then-tail-eq1-clause-looked g c = (
+  eqb (c.look_open_to_receive-tail.result % 2) 0,
+  c.look_open_to_receive-tail.ensures.did,
+  c.look_open_to_receive-tail.ensures.ended c.if-tail-eq1.true,
+)
 
 pub look_first-stamp-requires-clause-seat : goal.look_first-stamp-requires-clause-seat
 look_first-stamp-requires-clause-seat g c = seated_loaded c.args.words.now.key 16 c.load_word-place.result c.look_open_to_receive-tail.new.seat.me
@@ -32,3 +36,4 @@ returns-clause-looked g c =
     c.look_open_to_receive-tail.ensures.did
     (does_loaded n 16 c.load_word-place.result Receive e f c.look_open_to_receive-tail.ensures.seat c.load_word-place.ensures.loaded
     c.load_word-place.ensures.same.2) c.look_first-stamp.ensures.did
+    (λ more. c.look_first-stamp.ensures.came (leb-false c.look_first-stamp.result (2 * c.load_word-place.result) more))

@@ -1,13 +1,12 @@
 use Rattle.std.proofs.Common.{rules, arith, ap, sym, subst, ◌∙◌, ◌%◌, ◌*◌, ◌+◌, leb}
-use Rattle.std.proofs.lemmas.Bool.{leb-true}
+use Rattle.std.proofs.lemmas.Bool.{leb-true, lt-leb}
 use Rattle.ring_channel.specs.declared.act.RingSide.TheVariants.{Receive}
 use Rattle.ring_channel.specs.declared.act.WaitStep.TheVariants.{NothingThere}
-use Rattle.ring_channel.specs.Looks.{MadeIf}
 use Rattle.ring_channel.specs.Seen.{own_tag, now_in}
 use Rattle.ring_channel.proofs.MayWait.{may_see_bare}
+use Rattle.ring_channel.proofs.SlotsLooked.{slot_looked}
 use Rattle.ring_channel.proofs.StatesStaySound.{slot_of}
 use Rattle.ring_channel.proofs.WaitsKeep.{May, looks}
-use Rattle.ring_channel.proofs.WaitsTold.{does_if, seated_does}
 use Rattle.ring_channel.proofs.waits.look_first.Goals as goal
 
 pub load-requires : goal.load-requires
@@ -30,26 +29,14 @@ load-requires g c =
     )
 
 pub returns-clause-did : goal.returns-clause-did
-returns-clause-did g c =
-    let n = c.args.words.now.key in
-    let m = c.args.seat.now.me in
-    let p = c.args.place in
-    let is = c.requires.place ∙ ap (λ k. (now_in k m.0).takes) (sym c.requires.seat.key) in
-    does_if (leb c.load.result (2 * p)) n (32 + p % c.args.slots) c.load.result Receive NothingThere m c.load.new.seat.me c.requires.seat
-    (subst (λ k. MadeIf (leb c.load.result (2 * p)) k (32 + p % c.args.slots) c.load.result Receive NothingThere m c.load.new.seat.me)
-    c.requires.seat.key
-    (subst (λ z. MadeIf (leb c.load.result (2 * z)) m.0.key (32 + p % c.args.slots) c.load.result Receive NothingThere m c.load.new.seat.me)
-    (sym is) c.load.ensures.2))
+returns-clause-did g c = (slot_looked leb c.args.words.now.key c.args.slots c.args.place c.load.result Receive c.args.seat.now.me c.load.new.seat.me
+    c.requires.table.0.pos c.requires.table.2 c.requires.seat c.requires.place c.load.ensures.2).did
 
 pub returns-clause-seat : goal.returns-clause-seat
-returns-clause-seat g c =
-    let n = c.args.words.now.key in
-    let m = c.args.seat.now.me in
-    let p = c.args.place in
-    let is = c.requires.place ∙ ap (λ k. (now_in k m.0).takes) (sym c.requires.seat.key) in
-    seated_does n Receive _ m c.load.new.seat.me c.requires.seat
-    (does_if (leb c.load.result (2 * p)) n (32 + p % c.args.slots) c.load.result Receive NothingThere m c.load.new.seat.me c.requires.seat
-    (subst (λ k. MadeIf (leb c.load.result (2 * p)) k (32 + p % c.args.slots) c.load.result Receive NothingThere m c.load.new.seat.me)
-    c.requires.seat.key
-    (subst (λ z. MadeIf (leb c.load.result (2 * z)) m.0.key (32 + p % c.args.slots) c.load.result Receive NothingThere m c.load.new.seat.me)
-    (sym is) c.load.ensures.2)))
+returns-clause-seat g c = (slot_looked leb c.args.words.now.key c.args.slots c.args.place c.load.result Receive c.args.seat.now.me c.load.new.seat.me
+    c.requires.table.0.pos c.requires.table.2 c.requires.seat c.requires.place c.load.ensures.2).seat
+
+pub returns-clause-came : goal.returns-clause-came
+returns-clause-came g c = λ above. (slot_looked leb c.args.words.now.key c.args.slots c.args.place c.load.result Receive c.args.seat.now.me c.load.new.seat.me
+    c.requires.table.0.pos c.requires.table.2 c.requires.seat c.requires.place c.load.ensures.2).came
+    (lt-leb c.load.result (2 * c.args.place) above) (omega (arith, above))

@@ -1,13 +1,12 @@
-use Rattle.std.proofs.Common.{rules, arith, ap, sym, subst, ◌∙◌, ◌%◌, ◌*◌, ◌+◌, ltb}
-use Rattle.std.proofs.lemmas.Bool.{ltb-true}
+use Rattle.std.proofs.Common.{rules, arith, ap, sym, subst, ◌∙◌, ◌%◌, ◌*◌, ◌+◌, suc, ltb}
+use Rattle.std.proofs.lemmas.Bool.{ltb-true, lt-leb}
 use Rattle.ring_channel.specs.declared.act.RingSide.TheVariants.{Send}
 use Rattle.ring_channel.specs.declared.act.WaitStep.TheVariants.{NothingThere}
-use Rattle.ring_channel.specs.Looks.{MadeIf}
 use Rattle.ring_channel.specs.Seen.{own_tag, now_in}
 use Rattle.ring_channel.proofs.MayWait.{may_see_full}
+use Rattle.ring_channel.proofs.SlotsLooked.{slot_looked}
 use Rattle.ring_channel.proofs.StatesStaySound.{slot_of}
 use Rattle.ring_channel.proofs.WaitsKeep.{May, looks}
-use Rattle.ring_channel.proofs.WaitsTold.{does_if, seated_does}
 use Rattle.ring_channel.proofs.waits.look_next.Goals as goal
 
 pub load-requires : goal.load-requires
@@ -30,26 +29,14 @@ load-requires g c =
     )
 
 pub returns-clause-did : goal.returns-clause-did
-returns-clause-did g c =
-    let n = c.args.words.now.key in
-    let m = c.args.seat.now.me in
-    let p = c.args.place in
-    let is = c.requires.place ∙ ap (λ k. (now_in k m.0).puts) (sym c.requires.seat.key) in
-    does_if (ltb c.load.result (2 * p)) n (32 + p % c.args.slots) c.load.result Send NothingThere m c.load.new.seat.me c.requires.seat
-    (subst (λ k. MadeIf (ltb c.load.result (2 * p)) k (32 + p % c.args.slots) c.load.result Send NothingThere m c.load.new.seat.me)
-    c.requires.seat.key
-    (subst (λ z. MadeIf (ltb c.load.result (2 * z)) m.0.key (32 + p % c.args.slots) c.load.result Send NothingThere m c.load.new.seat.me)
-    (sym is) c.load.ensures.2))
+returns-clause-did g c = (slot_looked ltb c.args.words.now.key c.args.slots c.args.place c.load.result Send c.args.seat.now.me c.load.new.seat.me
+    c.requires.table.0.pos c.requires.table.2 c.requires.seat c.requires.place c.load.ensures.2).did
 
 pub returns-clause-seat : goal.returns-clause-seat
-returns-clause-seat g c =
-    let n = c.args.words.now.key in
-    let m = c.args.seat.now.me in
-    let p = c.args.place in
-    let is = c.requires.place ∙ ap (λ k. (now_in k m.0).puts) (sym c.requires.seat.key) in
-    seated_does n Send _ m c.load.new.seat.me c.requires.seat
-    (does_if (ltb c.load.result (2 * p)) n (32 + p % c.args.slots) c.load.result Send NothingThere m c.load.new.seat.me c.requires.seat
-    (subst (λ k. MadeIf (ltb c.load.result (2 * p)) k (32 + p % c.args.slots) c.load.result Send NothingThere m c.load.new.seat.me)
-    c.requires.seat.key
-    (subst (λ z. MadeIf (ltb c.load.result (2 * z)) m.0.key (32 + p % c.args.slots) c.load.result Send NothingThere m c.load.new.seat.me)
-    (sym is) c.load.ensures.2)))
+returns-clause-seat g c = (slot_looked ltb c.args.words.now.key c.args.slots c.args.place c.load.result Send c.args.seat.now.me c.load.new.seat.me
+    c.requires.table.0.pos c.requires.table.2 c.requires.seat c.requires.place c.load.ensures.2).seat
+
+pub returns-clause-came : goal.returns-clause-came
+returns-clause-came g c = λ above. (slot_looked ltb c.args.words.now.key c.args.slots c.args.place c.load.result Send c.args.seat.now.me c.load.new.seat.me
+    c.requires.table.0.pos c.requires.table.2 c.requires.seat c.requires.place c.load.ensures.2).came
+    (lt-leb (suc c.load.result) (2 * c.args.place) (omega (arith, above))) above

@@ -1,9 +1,10 @@
-use Rattle.std.proofs.Common.{rules, arith, subst, ◌%◌, eqb}
+use Rattle.std.proofs.Common.{rules, arith, ap, subst, ◌%◌, eqb}
 use Rattle.std.proofs.lemmas.Bool.{eqb-true}
 use Rattle.ring_channel.specs.declared.act.RingSide.TheVariants.{Send}
 use Rattle.ring_channel.specs.declared.act.WaitStep.TheVariants.{GoesOn}
 use Rattle.ring_channel.specs.Looks.{MadeIf}
 use Rattle.ring_channel.specs.Seen.{own_tag}
+use Rattle.ring_channel.proofs.MayGoOn.{ended_by, loaded_else}
 use Rattle.ring_channel.proofs.MayWait.{may_see_open}
 use Rattle.ring_channel.proofs.StepsKeep.{first_word}
 use Rattle.ring_channel.proofs.WaitsKeep.{looks}
@@ -44,3 +45,13 @@ returns-clause-tail g c =
     tail_if (eqb (c.load.result % 2) 0) n c.load.result Send m c.load.new.seat.me
     (subst (λ k. MadeIf (eqb (c.load.result % 2) 0) k 0 c.load.result Send GoesOn m c.load.new.seat.me) c.requires.seat.key
     c.load.ensures.2)
+
+pub returns-clause-ended : goal.returns-clause-ended
+returns-clause-ended g c = λ odd.
+    let n = c.args.words.now.key in
+    let m = c.args.seat.now.me in
+    ended_by n c.load.result Send m c.load.new.seat.me
+    (loaded_else (eqb (c.load.result % 2) 0) n 0 c.load.result Send GoesOn m c.load.new.seat.me
+    (ap (λ k. eqb k 0) odd)
+    (subst (λ k. MadeIf (eqb (c.load.result % 2) 0) k 0 c.load.result Send GoesOn m c.load.new.seat.me) c.requires.seat.key
+    c.load.ensures.2)) odd

@@ -1,0 +1,3 @@
+pub mod WaitsGo
+pub mod SelectsGo
+pub mod HandsOver
