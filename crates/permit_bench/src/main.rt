@@ -6,14 +6,19 @@
 //! Four coroutines use a semaphore of one permit, and one of two, by 1, 2 and 4 threads at once. One that finds no permit looks at its
 //! wait some times and then gives it up, which counts too (`permit_calls`).
 //!
+//! The same is done at a gate of one permit and of two, where one that finds no permit tries again until it has one (`gates`).
+//!
+//! - `gates_at_once`: the four at a gate
 //! - `locks`: the same by the kit's lock
 #![tactic(auto)]
 
-ghost use Rattle.std.specs.Prelude.{◌≡◌};
+ghost use Rattle.std.specs.Prelude.{◌≡◌, ◌≤◌};
 ghost use Rattle.permit_calls.specs.Known.{IsNumber};
 
+mod gates_at_once;
 mod locks;
 
+use gates_at_once::{new_gate, work_by};
 use locks::locked_by_four;
 use permit_calls::tally_of_four;
 use permits::Permits;
@@ -58,6 +63,27 @@ fn bench_permits<R: Threads + Wait + Sync + Clock + Print + Eprint + AllocGlobal
     Ok(())
 }
 
+/// A gate of so many permits, by so many threads.
+fn bench_gate<R: Threads + Wait + Sync + Clock + Print + Eprint + AllocGlobal>(
+    rt: &R,
+    permits: u32,
+    times: u32,
+    threads: u32,
+) -> io::Result<()>
+    requires some { 1 ≤ permits }
+    requires few { permits ≤ 65535 }
+{
+    let Ok((gate, four)) = new_gate(rt.alloc(), permits) else {
+        return Err(io::Error::from(io::ErrorKind::OutOfMemory));
+    };
+    let begun = Instant::now(rt)?;
+    let done = work_by(rt, &gate, four, times, threads).count();
+    let spent = begun.elapsed(rt)?;
+    println!(rt; "gate of {permits}, {threads} at once: {done} acquires")?;
+    eprintln!(rt; "gate of {permits}, {threads} at once: {done} acquires in {spent:?}")?;
+    Ok(())
+}
+
 /// The kit's lock, by so many threads.
 fn bench_lock<R: Threads + Wait + Sync + Clock + Print + Eprint>(
     rt: &R,
@@ -79,6 +105,10 @@ fn main(rt: HostRuntime) -> io::Result<()> {
     }
     for threads in [1u32, 2, 4] {
         bench_permits(&rt, &Permits { c: 0, n: 2 }, times, threads)?;
+    }
+    for threads in [1u32, 2, 4] {
+        bench_gate(&rt, 1, times, threads)?;
+        bench_gate(&rt, 2, times, threads)?;
     }
     for threads in [1u32, 2, 4] {
         bench_lock(&rt, times, threads)?;

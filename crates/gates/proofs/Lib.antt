@@ -1,0 +1,7 @@
+pub mod HistoriesGoOn
+pub mod StatesStaySound
+pub mod WordsTell
+pub mod MayAct
+pub mod PassesTell
+pub mod NewGates
+pub mod GateLaws

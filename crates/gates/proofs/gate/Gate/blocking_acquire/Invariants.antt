@@ -1,0 +1,12 @@
+use Rattle.std.proofs.Common.{false, []}
+use Rattle.gates.specs.Passes.{IsOf, SamePass, IsAt}
+use Rattle.gates.specs.Seen.{Adds}
+use Rattle.gates.proofs.gate.Gate.blocking_acquire.Given as goal
+
+abbrev pub invariant-loop : goal.invariant-loop
+invariant-loop g l = record {
+  of : IsOf l.self l.pass;
+  same : SamePass l.initial.pass l.pass;
+  at : IsAt l.initial.pass.held false l.pass;
+  adds : Adds l.initial.pass.number [] l.initial.pass.seat.me.0 l.pass.seat.me.0;
+}
