@@ -7,6 +7,7 @@
 //! - `three_passes`: three coroutines over words, with a pass for each
 //! - `counted`: to send in counted cells, waiting for nobody
 //! - `parcels`: to send texts that the sender owns, and to have those back that nobody received
+//! - `rings`: to send and to receive on a ring, or else to wait
 //! - `scopes`: to launch and to cancel, to enter a scope and to see its end, by a `Builder` over both, with the done channels of Jobs
 #![tactic(auto)]
 
@@ -15,6 +16,7 @@ mod channels;
 mod counted;
 mod jobs;
 mod parcels;
+mod rings;
 mod scopes;
 mod semaphores;
 mod three_passes;
@@ -33,6 +35,7 @@ use note_book::Notes;
 use one_thread_floor::{ListFloor, TreeFloor};
 use parcel_channel::{ParcelGot, ParcelHub};
 use parcels::{left_over, send_text};
+use rings::named_by_a_send;
 use scope_builders::{Builder, LaunchError};
 use scopes::{launch_and_cancel, scope_result};
 use std::alloc::{AllocGlobal, Global};
@@ -184,7 +187,7 @@ fn three_texts(alloc: Global) -> Result<Texts, Memory> {
     send_text(&hub, &mut sender, first);
     send_text(&hub, &mut sender, second);
     let received = match hub.receive(&mut receiver) {
-        ParcelGot::Value(text, _) => Some(text),
+        ParcelGot::Value(text, _, _) => Some(text),
         _ => None,
     };
     let _ = hub.close(&mut sender, 0);
@@ -195,6 +198,13 @@ fn three_texts(alloc: Global) -> Result<Texts, Memory> {
         back,
         left,
     })
+}
+
+/// Says what came of a text that is sent to a receiver which waits.
+fn tell_of_rings<R: Print>(rt: &R, alloc: Global) {
+    if let Ok(text) = String::from_str(alloc, "first") {
+        tell(rt, "named by a send", &named_by_a_send(alloc, text));
+    }
 }
 
 /// Says what an example answers.
@@ -234,4 +244,5 @@ fn main(rt: HostRuntime) {
     tell_of_bridges(&rt);
     tell(&rt, "two sends", &two_sends(alloc));
     tell(&rt, "three texts", &three_texts(alloc));
+    tell_of_rings(&rt, alloc);
 }

@@ -16,8 +16,8 @@ pub(crate) fn send_text(
     ensures back { IfSome result (λ back. back ≡ text) }
 {
     match hub.send(pass, text) {
-        ParcelSent::Sent(_) => None,
-        ParcelSent::Waits(_) => None,
+        ParcelSent::Sent(_, _) => None,
+        ParcelSent::Waits(_, _) => None,
         ParcelSent::Lost => None,
         ParcelSent::Closed(back, _) => Some(back),
         ParcelSent::Spent(back) => Some(back),

@@ -55,7 +55,7 @@ fn send_one(hub: &ParcelHub<Parcel>, pass: &mut ParcelPass<Parcel>, alloc: Globa
     ensures kept { Keeps hub.now pass.old pass.new }
 {
     match Box::new(alloc, [i as u64; 16]) {
-        Ok(parcel) => matches!(hub.send(pass, parcel), ParcelSent::Sent(Some(_))),
+        Ok(parcel) => matches!(hub.send(pass, parcel), ParcelSent::Sent(Some(_), _)),
         Err(_) => false,
     }
 }
@@ -65,7 +65,7 @@ fn receive_one(hub: &ParcelHub<Parcel>, pass: &mut ParcelPass<Parcel>) -> bool
     requires of { IsOf hub.now pass.old }
     ensures kept { Keeps hub.now pass.old pass.new }
 {
-    matches!(hub.receive(pass), ParcelGot::Value(_, _))
+    matches!(hub.receive(pass), ParcelGot::Value(_, _, _))
 }
 
 /// So many sends and as many receives, by turns.

@@ -49,15 +49,16 @@ fn by_two<R: Threads + Wait + Sync>(
     a.saturating_add(b)
 }
 
-/// So many transfers by each of four, through a channel that keeps 64 boxes, on so many threads, which are one, two or four. Answers how
-/// many boxes came, or none if no channel could be made.
+/// So many transfers by each of four, through a channel that keeps so many boxes, on so many threads, which are one, two or four. Answers
+/// how many boxes came, or none if no channel could be made.
 pub(crate) fn sent_by<R: Threads + Wait + Sync>(
     rt: &R,
     alloc: Global,
+    slots: usize,
     times: u32,
     threads: u32,
 ) -> Option<u32> {
-    let Ok((sender, receiver)) = bounded::<Parcel, Global>(alloc, 64) else {
+    let Ok((sender, receiver)) = bounded::<Parcel, Global>(alloc, slots) else {
         return None;
     };
     let (sender, receiver) = (&sender, &receiver);

@@ -6,7 +6,7 @@ use Rattle.std.specs.List.{list_all}
 use Rattle.channel_model.specs.declared.acts.Act.TheVariants.{Admit}
 use Rattle.channel_model.specs.Histories.{Legal}
 use Rattle.channel_model.specs.Floors.{Floor, SameSetting, Looked, Made}
-use Rattle.channel_model.proofs.Spans.{added_looked, added_made, added_then}
+use Rattle.channel_model.proofs.Spans.{added_none, added_looked, added_made, added_then}
 use Rattle.channel_model.proofs.Left.{left_of, left_lower}
 use Rattle.cell_words.specs.declared.hub.Hub.{Hub}
 use Rattle.cell_calls.specs.declared.desk.Desk.{Desk}
@@ -24,14 +24,18 @@ admits_then who a b c x y = record {
   admits = list_all-append is_admit x.acts y.acts ∙ ap (λ t. t && list_all is_admit y.acts) x.admits ∙ y.admits;
 }
 
+pub admits_self : (who : ℕ) (a : Floor) → Admits who a a
+admits_self who a = record { acts = []; added = added_none who a a (same_floor a) refl; admits = refl }
+
 pub admits_looked : (who : ℕ) (a b c : Floor) → Admits who a b → Looked who b c → Admits who a c
 admits_looked who a b c x l = admits_then who a b c x (record { acts = []; added = added_looked who b c l; admits = refl })
 
 pub looked_admits : (who : ℕ) (a b c : Floor) → Looked who a b → Admits who b c → Admits who a c
 looked_admits who a b c l x = admits_then who a b c (record { acts = []; added = added_looked who a b l; admits = refl }) x
 
-pub all_admits : (who : ℕ) (a b : Floor) → AdmitsAll who a b → Admits who a b
-all_admits who a b x = looked_admits who a x.marked b x.next.0 (admits_looked who x.marked x.below.before b x.below.admits x.below.none.0)
+pub all_admits : (who set : ℕ) (a b : Floor) → AdmitsAll who set a b → Admits who a b
+all_admits who set a b x = looked_admits who a x.marked b x.next.0
+    (admits_looked who x.marked x.below.before b x.below.admits x.below.none.0)
 
 pub admits_made : (who c p : ℕ) (a b d : Floor) → Admits who a b → Made who (Admit c p) b d → Admits who a d
 admits_made who c p a b d x m = admits_then who a b d x

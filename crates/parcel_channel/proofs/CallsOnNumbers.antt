@@ -2,8 +2,10 @@
 use Rattle.std.specs.Prelude.{◌≡◌, ℕ, Bool, true, false, Option, Some, None, Result, Ok, Err}
 use Rattle.std.proofs.Common.{ap, subst}
 use Rattle.channel_model.specs.declared.floor.AlreadyClosed.{AlreadyClosed}
+use Rattle.channel_model.specs.declared.floor.TriedGot.{TriedGot}
+use Rattle.channel_model.specs.declared.floor.TriedGot.TheVariants as tried_got
 use Rattle.channel_model.specs.Floors.{Floor}
-use Rattle.channel_model.specs.Answers.{CloseAnswer, WakeAnswer, VoidAnswer, DrainAnswer}
+use Rattle.channel_model.specs.Answers.{TriedGotAnswer, CloseAnswer, WakeAnswer, VoidAnswer, DrainAnswer}
 use Rattle.cell_words.specs.declared.hub.Hub.{Hub}
 use Rattle.cell_words.specs.Hubs.{SameGiving}
 use Rattle.cell_calls.specs.declared.desk.Desk.{Desk}
@@ -22,6 +24,11 @@ giving_on a b same = ap (λ (x : DeskAnchor). (x.chief, x.given)) same
 pub close_callers : (who c v : ℕ) (a b : Floor) (r : Result (Unit {0}) AlreadyClosed) → CloseAnswer who c v a b r → b.callers ≡ a.callers
 close_callers who c v a b (Ok x) h = h.same.callers
 close_callers who c v a b (Err x) h = h.looked.same.callers
+
+pub tried_callers : (who c : ℕ) (a b : Floor) (r : TriedGot) → TriedGotAnswer who c a b r → b.callers ≡ a.callers
+tried_callers who c a b (tried_got.Taken p v t) h = h.made.same.callers
+tried_callers who c a b tried_got.Empty h = h.0.same.callers
+tried_callers who c a b (tried_got.Closed x) h = h.0.looked.same.callers
 
 pub wake_callers : (who c : ℕ) (a b : Floor) (r : Option (ℕ × ℕ)) → WakeAnswer who c a b r → b.callers ≡ a.callers
 wake_callers who c a b (Some x) h = h.made.same.callers

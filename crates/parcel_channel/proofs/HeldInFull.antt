@@ -44,12 +44,12 @@ place_given shape who p es l h = ⊎_elim (λ lt. lt) (λ le. absurd
 before_legal : (shape : Shape) (xs ys : List Entry) → IsPrefix xs ys → Legal shape ys → Legal shape xs
 before_legal shape xs ys p l = Legal-prefix shape xs p.0 (subst (Legal shape) (sym p.1) l)
 
-pub held_full : (who k place : ℕ) (old new : Floor) → Legal new.shape new.seen → HeldThen who k place false old new
+pub held_full : (who k place set : ℕ) (old new : Floor) → Legal new.shape new.seen → HeldThen who k place set false old new
     → WaitsInFull who k place old new
-held_full who k place old new l h =
+held_full who k place set old new l h =
     let w : WaitId = record { channel = 0; place = place } in
     let m : Made who (Offer 0 place k w 0) old h.held = h.offered.0 in
-    let a : AdmitsAll who h.held h.admitted = h.admits in
+    let a : AdmitsAll who set h.held h.admitted = h.admits in
     let look = h.own.0 in
     let mark = a.next.1 in
     let none = a.below.none.1 in

@@ -7,6 +7,7 @@ pub mod MovedOnce
 pub mod CallsOnNumbers
 pub mod NumbersWithdrawn
 pub mod AdmitsRepeat
+pub mod TagBits
 pub mod NewParcels
 pub mod SlotsCopied
 pub mod NobodyHolds
@@ -17,3 +18,5 @@ pub mod OwnWaits
 pub mod WaitsHeld
 pub mod HeldInFull
 pub mod SendsTold
+pub mod ClosesSeen
+pub mod PassesEnded

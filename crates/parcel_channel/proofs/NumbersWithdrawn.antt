@@ -7,15 +7,15 @@ use Rattle.channel_model.specs.declared.standing.Resolution.{Resolution}
 use Rattle.channel_model.specs.declared.standing.Resolution.TheVariants as resolved
 use Rattle.channel_model.specs.Laws.{IsResolvedAs}
 use Rattle.channel_model.proofs.Later.{resolved_later}
-use Rattle.cell_words.specs.Cells.{Cell, free, cell_of}
-use Rattle.cell_words.specs.Words.{parts_word, word_of_wait, word_of_cell}
+use Rattle.word_rules.specs.Cells.{Cell, free, cell_of}
+use Rattle.word_rules.specs.Words.{parts_word, word_of_wait, word_of_cell}
 use Rattle.channel_model.specs.Channels.{Shape}
 use Rattle.channel_model.specs.Histories.{Legal, replay}
 use Rattle.channel_model.specs.Answers.{IsOwnWait, IsReadyWait}
 use Rattle.channel_model.specs.Channels.{Wait}
 use Rattle.co_base.specs.declared.names.WaitId.{WaitId}
-use Rattle.cell_words.specs.declared.wait_word.WaitWord.{WaitWord}
-use Rattle.cell_words.specs.declared.cell_word.CellWord.{CellWord}
+use Rattle.word_rules.specs.declared.wait_word.WaitWord.{WaitWord}
+use Rattle.word_rules.specs.declared.cell_word.CellWord.{CellWord}
 use Rattle.cell_words.specs.Answers.{IsCellWord, IsWaitWord}
 use Rattle.cell_words.specs.Seen.{Seen, Sees}
 use Rattle.parcel_channel.specs.Numbers.{is_withdrawn_how, is_withdrawn, number_in, withdrawn_at, is_cancel, number_of_state}

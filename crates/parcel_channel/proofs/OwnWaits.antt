@@ -22,8 +22,8 @@ use Rattle.channel_model.specs.PlainOffers.{EndsPlainly, IsPlainOffer, OffersPla
 use Rattle.channel_model.proofs.Histories.{replay_push, Legal-last}
 use Rattle.channel_model.proofs.Spans.{nothing_more}
 use Rattle.channel_model.proofs.PlainOffers.{is_quiet, plain_lasts, offered_plain}
-use Rattle.cell_words.specs.declared.wait_word.WaitWord.{WaitWord}
-use Rattle.cell_words.specs.Words.{parts_word, word_of_wait}
+use Rattle.word_rules.specs.declared.wait_word.WaitWord.{WaitWord}
+use Rattle.word_rules.specs.Words.{parts_word, word_of_wait}
 use Rattle.parcel_channel.specs.Numbers.{is_admit, Admits, WaitsStill, is_sent}
 
 -- ---- it was placed, and admits were made

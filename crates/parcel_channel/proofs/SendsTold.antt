@@ -17,11 +17,11 @@ module _ {T : Type 0} where
 
   pub send_told : (parcels who k : ℕ) (x : T) (v u w : Seen T) (old new : Floor) (r : ParcelSent T) → PutAnswer parcels who x v u (Ok k)
       → NumberSent who k u w old new r → SendAnswer parcels who x v w old new r
-  send_told parcels who k x v u w old new (sent.Sent (Some t)) put h =
+  send_told parcels who k x v u w old new (sent.Sent (Some t) set) put h =
+      (k, subst (λ (s : Seen T). PutAnswer parcels who x v s (Ok k)) (sym h.2) put, h.0, h.1)
+  send_told parcels who k x v u w old new (sent.Sent None set) put h =
       (k, subst (λ (s : Seen T). PutAnswer parcels who x v s (Ok k)) (sym h.1) put, h.0)
-  send_told parcels who k x v u w old new (sent.Sent None) put h =
-      (k, subst (λ (s : Seen T). PutAnswer parcels who x v s (Ok k)) (sym h.1) put, h.0)
-  send_told parcels who k x v u w old new (sent.Waits wait) put h =
+  send_told parcels who k x v u w old new (sent.Waits wait set) put h =
       (k, subst (λ (s : Seen T). PutAnswer parcels who x v s (Ok k)) (sym h.2) put, h.0, h.1, h.3)
   send_told parcels who k x v u w old new (sent.Closed y c) put h = (k, u, put, h.0, h.1, h.2 x (put_move parcels who k x v u put))
   send_told parcels who k x v u w old new (sent.Spent y) put h = (k, u, put, h.0, h.1, h.2 x (put_move parcels who k x v u put))

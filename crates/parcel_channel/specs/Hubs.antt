@@ -4,11 +4,13 @@ use lib.ListN.{get_elem?}
 use Rattle.co_base.specs.declared.names.WaitId.{WaitId}
 use Rattle.channel_model.specs.Floors.{Floor}
 use Rattle.channel_model.specs.Answers.{WakeAnswer, DrainAnswer}
-use Rattle.channel_model.specs.declared.floor.Got.TheVariants as got
 use Rattle.parcel_channel.specs.declared.waits.Placed.TheVariants as placed
+use Rattle.parcel_channel.specs.declared.waits.Received.TheVariants as received
+use Rattle.parcel_channel.specs.declared.waits.TriedReceived.TheVariants as tried_received
 use Rattle.parcel_channel.specs.declared.waits.Ended.TheVariants as ended
 use Rattle.cell_words.specs.Seen.{Seen as NumbersSeen}
 use Rattle.cell_words.specs.Hubs.{IsOwn, GivesTags, SameGiving}
+use Rattle.cell_words.specs.Hubs as numbers
 use Rattle.cell_calls.specs.HubFloors.{hub_floor}
 use Rattle.parcel_channel.specs.declared.hub.ParcelHub.{ParcelHub}
 use Rattle.parcel_channel.specs.declared.hub.ParcelPass.{ParcelPass}
@@ -16,9 +18,11 @@ use Rattle.parcel_channel.specs.declared.answers.ParcelSent.{ParcelSent}
 use Rattle.parcel_channel.specs.declared.answers.ParcelSent.TheVariants as sent
 use Rattle.parcel_channel.specs.declared.answers.ParcelGot.{ParcelGot}
 use Rattle.parcel_channel.specs.declared.answers.ParcelGot.TheVariants as found
+use Rattle.parcel_channel.specs.declared.answers.ParcelTried.{ParcelTried}
+use Rattle.parcel_channel.specs.declared.answers.ParcelTried.TheVariants as tried
 use Rattle.parcel_channel.specs.declared.answers.ParcelSettled.{ParcelSettled}
 use Rattle.parcel_channel.specs.declared.answers.ParcelSettled.TheVariants as settled
-use Rattle.parcel_channel.specs.Numbers.{HoldsWait, Sends, Refused, Gets, EndAnswer}
+use Rattle.parcel_channel.specs.Numbers.{HoldsWait, Sends, Refused, Gets, TriesToGet, EndAnswer}
 use Rattle.parcel_channel.specs.Seen.{Seen, SameTags}
 use Rattle.parcel_channel.specs.Answers.{IsOnly, PutAnswer, TakeAnswer}
 
@@ -45,7 +49,7 @@ module _ {T : Type 0} where
 
   -- and of their numbers
   abbrev pub numbers_by : ParcelPass T → NumbersSeen
-  numbers_by pass = pass.pass.seat.me.0
+  numbers_by pass = numbers.seen_by pass.pass
 
   -- it gives out tags, those of its seat and of its pass on the numbers alike
   abbrev pub IsFirst : ParcelPass T → Type 0
@@ -64,10 +68,10 @@ module _ {T : Type 0} where
 
   -- what became of a number that was offered; where that was refused, its value was moved out again
   abbrev pub NumberSent : ℕ → ℕ → Seen T → Seen T → Floor → Floor → ParcelSent T → Type 0
-  NumberSent who k v w old new (sent.Sent (Some t)) = Sends who k old new (placed.Handed t) × (w ≡ v)
-  NumberSent who k v w old new (sent.Sent None) = Sends who k old new placed.Kept × (w ≡ v)
-  NumberSent who k v w old new (sent.Waits wait) =
-      Sends who k old new (placed.Waits wait.place) × (wait.channel ≡ 0) × (w ≡ v) × HoldsWait who wait new
+  NumberSent who k v w old new (sent.Sent (Some t) set) = Sends who k old new (placed.Handed t) × (set ≡ 0) × (w ≡ v)
+  NumberSent who k v w old new (sent.Sent None set) = Sends who k old new (placed.Kept set) × (w ≡ v)
+  NumberSent who k v w old new (sent.Waits wait set) =
+      Sends who k old new (placed.Waits wait.place set) × (wait.channel ≡ 0) × (w ≡ v) × HoldsWait who wait new
   NumberSent who k v w old new (sent.Closed y c) = Sends who k old new (placed.Closed c) × TakeAnswer who k v w (Some y) × IsOnly k y v.seen
   NumberSent who k v w old new (sent.Spent y) = Sends who k old new placed.Spent × TakeAnswer who k v w (Some y) × IsOnly k y v.seen
   NumberSent who k v w old new (sent.NoParcel y) = ⊥
@@ -75,12 +79,12 @@ module _ {T : Type 0} where
 
   -- the value was moved in before its number was offered; where that was refused, the same value comes back
   abbrev pub SendAnswer : ℕ → ℕ → T → Seen T → Seen T → Floor → Floor → ParcelSent T → Type 0
-  SendAnswer parcels who x v w old new (sent.Sent (Some t)) =
-      (k : ℕ) × PutAnswer parcels who x v w (Ok k) × Sends who k old new (placed.Handed t)
-  SendAnswer parcels who x v w old new (sent.Sent None) =
-      (k : ℕ) × PutAnswer parcels who x v w (Ok k) × Sends who k old new placed.Kept
-  SendAnswer parcels who x v w old new (sent.Waits wait) =
-      (k : ℕ) × PutAnswer parcels who x v w (Ok k) × Sends who k old new (placed.Waits wait.place) × (wait.channel ≡ 0)
+  SendAnswer parcels who x v w old new (sent.Sent (Some t) set) =
+      (k : ℕ) × PutAnswer parcels who x v w (Ok k) × Sends who k old new (placed.Handed t) × (set ≡ 0)
+  SendAnswer parcels who x v w old new (sent.Sent None set) =
+      (k : ℕ) × PutAnswer parcels who x v w (Ok k) × Sends who k old new (placed.Kept set)
+  SendAnswer parcels who x v w old new (sent.Waits wait set) =
+      (k : ℕ) × PutAnswer parcels who x v w (Ok k) × Sends who k old new (placed.Waits wait.place set) × (wait.channel ≡ 0)
       × HoldsWait who wait new
   SendAnswer parcels who x v w old new (sent.Closed y c) =
       (k : ℕ) × (u : Seen T) × PutAnswer parcels who x v u (Ok k) × Sends who k old new (placed.Closed c)
@@ -98,14 +102,23 @@ module _ {T : Type 0} where
 
   -- the value that was moved in with the number that was received
   abbrev pub ReceiveAnswer : ℕ → ℕ → Seen T → Seen T → Floor → Floor → ParcelGot T → Type 0
-  ReceiveAnswer parcels who v w old new (found.Value x t) =
-      (k : ℕ) × (place : ℕ) × Gets who old new (got.Taken place k t) × TakeAnswer who k v w (Some x)
+  ReceiveAnswer parcels who v w old new (found.Value x t set) =
+      (k : ℕ) × Gets who old new (received.Taken k t set) × TakeAnswer who k v w (Some x)
   ReceiveAnswer parcels who v w old new (found.Waits wait) =
-      Gets who old new (got.Waiting wait.place) × (wait.channel ≡ 0) × (w ≡ v) × HoldsWait who wait new
-  ReceiveAnswer parcels who v w old new (found.Closed c) = Gets who old new (got.Closed c) × (w ≡ v)
-  ReceiveAnswer parcels who v w old new found.Spent = Gets who old new got.Spent × (w ≡ v)
-  ReceiveAnswer parcels who v w old new (found.Lost t) =
-      (k : ℕ) × (place : ℕ) × Gets who old new (got.Taken place k t) × IsLost parcels who k v w
+      Gets who old new (received.Waiting wait.place) × (wait.channel ≡ 0) × (w ≡ v) × HoldsWait who wait new
+  ReceiveAnswer parcels who v w old new (found.Closed c) = Gets who old new (received.Closed c) × (w ≡ v)
+  ReceiveAnswer parcels who v w old new found.Spent = Gets who old new received.Spent × (w ≡ v)
+  ReceiveAnswer parcels who v w old new (found.Lost t set) =
+      (k : ℕ) × Gets who old new (received.Taken k t set) × IsLost parcels who k v w
+
+  -- the same, of a receive that never waits
+  abbrev pub TryAnswer : ℕ → ℕ → Seen T → Seen T → Floor → Floor → ParcelTried T → Type 0
+  TryAnswer parcels who v w old new (tried.Value x t set) =
+      (k : ℕ) × TriesToGet who old new (tried_received.Taken k t set) × TakeAnswer who k v w (Some x)
+  TryAnswer parcels who v w old new tried.Empty = TriesToGet who old new tried_received.Empty × (w ≡ v)
+  TryAnswer parcels who v w old new (tried.Closed c) = TriesToGet who old new (tried_received.Closed c) × (w ≡ v)
+  TryAnswer parcels who v w old new (tried.Lost t set) =
+      (k : ℕ) × TriesToGet who old new (tried_received.Taken k t set) × IsLost parcels who k v w
 
   -- the value that was moved in with the number that the wait was handed
   abbrev pub SettleParcel : ℕ → ℕ → WaitId → Bool → Seen T → Seen T → Floor → Floor → ParcelSettled T → Type 0

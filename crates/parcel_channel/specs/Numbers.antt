@@ -1,5 +1,7 @@
 -- The channel that carries parcel numbers.
-use Rattle.std.specs.Prelude.{◌≡◌, ◌⊎◌, ℕ, ◌<◌, ◌≤◌, Bool, true, false, List, [], ◌∷◌, ◌++◌, length, Option, Some, None, if◌then◌else◌}
+use Rattle.std.specs.Prelude.{◌≡◌, ◌⊎◌, ℕ, ◌^◌, ◌<◌, ◌≤◌, Bool, true, false, List, [], ◌∷◌, ◌++◌, length, Option, Some, None, if◌then◌else◌}
+use Rattle.std.specs.Prelude.{nat_lt}
+use Rattle.std.specs.Int.Bits.{bit_or}
 use Rattle.std.specs.List.{list_all}
 use mathlib.Core.List.{IsPrefix}
 use Rattle.channel_model.specs.declared.acts.Act.{Act}
@@ -7,8 +9,8 @@ use Rattle.channel_model.specs.declared.acts.Act.TheVariants.{Hand, Put, Offer, 
 use Rattle.channel_model.specs.declared.acts.Act.TheVariants.{WakeClosed, Withdraw, Settle}
 use Rattle.channel_model.specs.Floors.{Floor, Looked, Added}
 use Rattle.channel_model.specs.Channels.{Wait, kind_at, is_signal}
-use Rattle.channel_model.specs.declared.floor.Got.{Got}
 use Rattle.channel_model.specs.declared.floor.Got.TheVariants as got
+use Rattle.channel_model.specs.declared.floor.TriedGot.TheVariants as tried_got
 use Rattle.channel_model.specs.declared.acts.Settled.TheVariants as end
 use Rattle.channel_model.specs.declared.acts.Kind.{Kind}
 use Rattle.channel_model.specs.declared.acts.Kind.TheVariants.{Rendezvous, Buffered, Unlimited, Conflated, DropOldest, DropLatest, Signal}
@@ -19,18 +21,23 @@ use Rattle.channel_model.specs.Histories.{replay}
 use Rattle.channel_model.specs.declared.floor.Offered.TheVariants as offered
 use Rattle.parcel_channel.specs.declared.waits.Placed.{Placed}
 use Rattle.parcel_channel.specs.declared.waits.Placed.TheVariants as placed
+use Rattle.parcel_channel.specs.declared.waits.Received.{Received}
+use Rattle.parcel_channel.specs.declared.waits.Received.TheVariants as received
+use Rattle.parcel_channel.specs.declared.waits.TriedReceived.{TriedReceived}
+use Rattle.parcel_channel.specs.declared.waits.TriedReceived.TheVariants as tried
 use Rattle.parcel_channel.specs.declared.waits.Ended.{Ended}
 use Rattle.parcel_channel.specs.declared.waits.Ended.TheVariants as ended
 use Rattle.channel_model.specs.declared.acts.Entry.{Entry}
-use Rattle.channel_model.specs.Answers.{IsUnsettledOf, IsFullAt, OfferAnswer, GotAnswer, SettleAnswer, MarkAnswer, AdmitAnswer}
+use Rattle.channel_model.specs.Answers.{IsUnsettledOf, IsFullAt, OfferAnswer, GotAnswer, TriedGotAnswer, SettleAnswer, MarkAnswer}
+use Rattle.channel_model.specs.Answers.{AdmitAnswer, AdmittedAt}
 use Rattle.channel_model.specs.Laws.{IsResolvedAs}
 use Rattle.channel_model.specs.PlainOffers.{plain_offer}
 use Rattle.co_base.specs.declared.names.WaitId.{WaitId}
-use Rattle.cell_words.specs.declared.wait_word.ResolvedBy.{ResolvedBy}
-use Rattle.cell_words.specs.declared.wait_word.ResolvedBy.TheVariants as by
-use Rattle.cell_words.specs.declared.cell_word.CellState.{CellState}
-use Rattle.cell_words.specs.declared.cell_word.CellState.TheVariants as state
-use Rattle.cell_words.specs.Cells.{Cell, free, receiver, offer, buffered, emptied, closed_by, voided_by, cell_of}
+use Rattle.word_rules.specs.declared.wait_word.ResolvedBy.{ResolvedBy}
+use Rattle.word_rules.specs.declared.wait_word.ResolvedBy.TheVariants as by
+use Rattle.word_rules.specs.declared.cell_word.CellState.{CellState}
+use Rattle.word_rules.specs.declared.cell_word.CellState.TheVariants as state
+use Rattle.word_rules.specs.Cells.{Cell, free, receiver, offer, buffered, emptied, closed_by, voided_by, cell_of}
 use Rattle.cell_words.specs.declared.hub.Hub.{Hub}
 use Rattle.cell_words.specs.Hubs.{shape_of}
 
@@ -70,18 +77,30 @@ pub record Admits (who : ℕ) (old new : Floor) : Type 0 where
   pub added : Added who acts old new
   pub admits : list_all is_admit acts ≡ true
 
--- who made admits until nobody below the mark was left to admit
-pub record AdmitsBelow (who mark : ℕ) (old new : Floor) : Type 0 where
+-- the bit of a tag in a set: each tag below 63 has one of its own, and all others have the last
+abbrev pub bit_for : ℕ → ℕ
+bit_for t = if nat_lt t 63 then t else 63
+
+-- who made admits one after the other: the set has the bits of just the tags whose offers they were
+pub data AdmitsThose (who mark : ℕ) : ℕ → Floor → Floor → Type 0 where
+  nobody : (old : Floor) → AdmitsThose who mark 0 old old
+  another : (set place t : ℕ) (old mid new : Floor)
+      → AdmitsThose who mark set old mid → AdmittedAt who 0 mark place t mid new
+      → AdmitsThose who mark (bit_or set (2 ^ bit_for t)) old new
+
+-- who made admits alone, those of these tags, until nobody below the mark was left to admit
+pub record AdmitsBelow (who mark set : ℕ) (old new : Floor) : Type 0 where
   pub before : Floor
   pub admits : Admits who old before
+  pub those : AdmitsThose who mark set old before
   pub none : AdmitAnswer who 0 mark before new None
 
--- who admitted all for whom there was room, below the place that the channel gave out next
-pub record AdmitsAll (who : ℕ) (old new : Floor) : Type 0 where
+-- who admitted all for whom there was room, below the place that the channel gave out next: the offers of these tags
+pub record AdmitsAll (who set : ℕ) (old new : Floor) : Type 0 where
   pub mark : ℕ
   pub marked : Floor
   pub next : MarkAnswer who 0 old marked mark
-  pub below : AdmitsBelow who mark marked new
+  pub below : AdmitsBelow who mark set marked new
 
 -- the wait is who's, and did not end
 abbrev pub HoldsWait : ℕ → WaitId → Floor → Type 0
@@ -105,17 +124,17 @@ OwnOffer who w old new true = EndsAtOnce who w old new
 OwnOffer who w old new false = Looked who old new × WaitsStill who ((replay new.seen).waits w)
 
 -- a number was offered at a place where it had to wait; then admits were made, and the own offer was looked at
-pub record HeldThen (who k place : ℕ) (ended : Bool) (old new : Floor) : Type 0 where
+pub record HeldThen (who k place set : ℕ) (ended : Bool) (old new : Floor) : Type 0 where
   pub held : Floor
   pub admitted : Floor
   pub offered : OfferAnswer who 0 k old held (offered.Held place)
-  pub admits : AdmitsAll who held admitted
+  pub admits : AdmitsAll who set held admitted
   pub own : OwnOffer who (record { channel = 0; place = place }) admitted new ended
 
 -- a number was kept by the channel, at once or by an admit, or received before the call ended
-pub data Kept (who k : ℕ) (old new : Floor) : Type 0 where
-  at_once : (place : ℕ) → OfferAnswer who 0 k old new (offered.Put place) → Kept who k old new
-  by_now : (place : ℕ) → HeldThen who k place true old new → Kept who k old new
+pub data Kept (who k : ℕ) (old new : Floor) : ℕ → Type 0 where
+  at_once : (place : ℕ) → OfferAnswer who 0 k old new (offered.Put place) → Kept who k old new 0
+  by_now : (place set : ℕ) → HeldThen who k place set true old new → Kept who k old new set
 
 -- when the call placed its offer of k, at least as many offers stood as the channel keeps
 pub record PlacedInFull (who k place : ℕ) (old new : Floor) : Type 0 where
@@ -133,32 +152,41 @@ WaitsInFull who k place old new =
 -- what became of a number that was offered
 abbrev pub Sends : ℕ → ℕ → Floor → Floor → Placed → Type 0
 Sends who k old new (placed.Handed t) = (place : ℕ) × OfferAnswer who 0 k old new (offered.Handed place t)
-Sends who k old new placed.Kept = Kept who k old new
-Sends who k old new (placed.Waits place) = HeldThen who k place false old new × WaitsInFull who k place old new
+Sends who k old new (placed.Kept set) = Kept who k old new set
+Sends who k old new (placed.Waits place set) = HeldThen who k place set false old new × WaitsInFull who k place old new
 Sends who k old new (placed.Closed c) = OfferAnswer who 0 k old new (offered.Closed c)
 Sends who k old new placed.Spent = OfferAnswer who 0 k old new offered.Spent
 
 -- an offer that had to wait, where it ended before the call did, and where not
-abbrev pub placed_at : Bool → ℕ → Placed
-placed_at true place = placed.Kept
-placed_at false place = placed.Waits place
+abbrev pub placed_at : Bool → ℕ → ℕ → Placed
+placed_at true place set = placed.Kept set
+placed_at false place set = placed.Waits place set
 
 -- the channel was closed, or has no place left
 abbrev pub Refused : ℕ → ℕ → Floor → Floor → Type 0
 Refused who k old new = ((c : ℕ) × Sends who k old new (placed.Closed c)) ⊎ Sends who k old new placed.Spent
 
 -- a number was received, and then all admitted for whom there was room; or none was received
-abbrev pub Gets : ℕ → Floor → Floor → Got → Type 0
-Gets who old new (got.Taken place v from) =
-    (mid : Floor) × GotAnswer who 0 old mid (got.Taken place v from) × AdmitsAll who mid new
-Gets who old new other = GotAnswer who 0 old new other
+abbrev pub Gets : ℕ → Floor → Floor → Received → Type 0
+Gets who old new (received.Taken k from set) =
+    (place : ℕ) × (mid : Floor) × GotAnswer who 0 old mid (got.Taken place k from) × AdmitsAll who set mid new
+Gets who old new (received.Waiting place) = GotAnswer who 0 old new (got.Waiting place)
+Gets who old new (received.Closed c) = GotAnswer who 0 old new (got.Closed c)
+Gets who old new received.Spent = GotAnswer who 0 old new got.Spent
+
+-- the same, of a receive that never waits
+abbrev pub TriesToGet : ℕ → Floor → Floor → TriedReceived → Type 0
+TriesToGet who old new (tried.Taken k from set) =
+    (place : ℕ) × (mid : Floor) × TriedGotAnswer who 0 old mid (tried_got.Taken place k from) × AdmitsAll who set mid new
+TriesToGet who old new tried.Empty = TriedGotAnswer who 0 old new tried_got.Empty
+TriesToGet who old new (tried.Closed c) = TriedGotAnswer who 0 old new (tried_got.Closed c)
 
 -- a receive that waits has begun a wait of its own
-abbrev pub OwnsItsWait : ℕ → Floor → Got → Type 0
-OwnsItsWait who new (got.Taken place v from) = Unit {0}
-OwnsItsWait who new (got.Waiting place) = HoldsWait who (record { channel = 0; place = place }) new
-OwnsItsWait who new (got.Closed v) = Unit {0}
-OwnsItsWait who new got.Spent = Unit {0}
+abbrev pub OwnsItsWait : ℕ → Floor → Received → Type 0
+OwnsItsWait who new (received.Taken k from set) = Unit {0}
+OwnsItsWait who new (received.Waiting place) = HoldsWait who (record { channel = 0; place = place }) new
+OwnsItsWait who new (received.Closed v) = Unit {0}
+OwnsItsWait who new received.Spent = Unit {0}
 
 -- a wait was settled as cancelled, and then looked at
 pub record Cancels (who : ℕ) (w : WaitId) (cancelled : Bool) (old new : Floor) : Type 0 where

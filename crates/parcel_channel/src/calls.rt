@@ -8,14 +8,16 @@ ghost use Rattle.parcel_channel.specs.Seen.{SameTags};
 ghost use Rattle.parcel_channel.specs.Numbers.{HoldsWait};
 ghost use Rattle.parcel_channel.specs.Answers.{IsMove, IsOnly, PutAnswer, TakeAnswer};
 ghost use Rattle.parcel_channel.specs.Hubs.{IsOf, SamePass, seen_by, floor_by, IsLost, NumberSent};
-ghost use Rattle.parcel_channel.specs.Hubs.{SendAnswer, ReceiveAnswer, SettleParcel, WakeParcel, DrainParcel};
+ghost use Rattle.parcel_channel.specs.Hubs.{SendAnswer, ReceiveAnswer, TryAnswer, SettleParcel, WakeParcel, DrainParcel};
 
-use crate::answers::{ParcelGot, ParcelSent, ParcelSettled};
+use crate::answers::{ParcelGot, ParcelSent, ParcelSettled, ParcelTried};
 use crate::hub::{ParcelHub, ParcelPass};
 use crate::numbers::{close, drain, look, void, wake_closed, withdraw};
 use crate::store::{put, take};
-use crate::waits::{Ended, Placed, end_wait, receive_next, send};
-use channel_model::{AlreadyClosed, Got, WaitState, Withdrawn};
+use crate::waits::{
+    Ended, Placed, Received, TriedReceived, end_wait, receive_next, send, try_receive_next,
+};
+use channel_model::{AlreadyClosed, WaitState, Withdrawn};
 use co_base::{Tag, Value, WaitId};
 
 /// Draws a number and moves the value in with it; or gives it back, where no number is left.
@@ -68,9 +70,9 @@ fn send_number<T>(hub: &ParcelHub<T>, pass: &mut ParcelPass<T>, number: Value) -
         (floor_by hub.now pass.old) (floor_by hub.now pass.new) result }
 {
     match send(&hub.hub, &mut pass.pass, pass.tag, number) {
-        Placed::Handed(to) => ParcelSent::Sent(Some(to)),
-        Placed::Kept => ParcelSent::Sent(None),
-        Placed::Waits(place) => ParcelSent::Waits(WaitId { channel: 0, place }),
+        Placed::Handed(to) => ParcelSent::Sent(Some(to), 0),
+        Placed::Kept(admitted) => ParcelSent::Sent(None, admitted),
+        Placed::Waits(place, admitted) => ParcelSent::Waits(WaitId { channel: 0, place }, admitted),
         Placed::Closed(closed) => match take_value(hub, pass, number) {
             Some(value) => ParcelSent::Closed(value, closed),
             None => ParcelSent::Lost,
@@ -83,8 +85,7 @@ fn send_number<T>(hub: &ParcelHub<T>, pass: &mut ParcelPass<T>, number: Value) -
 }
 
 impl<T> ParcelHub<T> {
-    /// Moves the value in, and sends its number; or waits. Where the channel is closed or has no place left, the value comes back. A sender
-    /// that is admitted meanwhile is named in no answer: it finds out by `look`.
+    /// Moves the value in, and sends its number; or waits. Where the channel is closed or has no place left, the value comes back.
     ///
     /// Example: `send_text` in `docs/LIBRARY.md`.
     pub fn send(&self, pass: &mut ParcelPass<T>, value: T) -> ParcelSent<T>
@@ -134,7 +135,7 @@ impl<T> ParcelHub<T> {
         }
     }
 
-    /// Receives a number, and moves its value out; or waits. A sender that is admitted then is named in no answer: it finds out by `look`.
+    /// Receives a number, and moves its value out; or waits.
     ///
     /// Example: `three_texts` in `docs/LIBRARY.md`.
     pub fn receive(&self, pass: &mut ParcelPass<T>) -> ParcelGot<T>
@@ -145,13 +146,31 @@ impl<T> ParcelHub<T> {
             (floor_by self.now pass.old) (floor_by self.now pass.new) result }
     {
         match receive_next(&self.hub, &mut pass.pass, pass.tag) {
-            Got::Taken(_, number, from) => match take_out(self, pass, number) {
-                Some(value) => ParcelGot::Value(value, from),
-                None => ParcelGot::Lost(from),
+            Received::Taken(number, from, admitted) => match take_out(self, pass, number) {
+                Some(value) => ParcelGot::Value(value, from, admitted),
+                None => ParcelGot::Lost(from, admitted),
             },
-            Got::Waiting(place) => ParcelGot::Waits(WaitId { channel: 0, place }),
-            Got::Closed(value) => ParcelGot::Closed(value),
-            Got::Spent => ParcelGot::Spent,
+            Received::Waiting(place) => ParcelGot::Waits(WaitId { channel: 0, place }),
+            Received::Closed(value) => ParcelGot::Closed(value),
+            Received::Spent => ParcelGot::Spent,
+        }
+    }
+
+    /// Receives a number, if one is there, and moves its value out; never waits.
+    pub fn try_receive(&self, pass: &mut ParcelPass<T>) -> ParcelTried<T>
+        requires of { IsOf self.now pass.old }
+        ensures of { IsOf self.now pass.new }
+        ensures same { SamePass pass.old pass.new }
+        ensures answer { TryAnswer self.now.parcels pass.old.tag (seen_by pass.old) (seen_by pass.new)
+            (floor_by self.now pass.old) (floor_by self.now pass.new) result }
+    {
+        match try_receive_next(&self.hub, &mut pass.pass, pass.tag) {
+            TriedReceived::Taken(number, from, admitted) => match take_out(self, pass, number) {
+                Some(value) => ParcelTried::Value(value, from, admitted),
+                None => ParcelTried::Lost(from, admitted),
+            },
+            TriedReceived::Empty => ParcelTried::Empty,
+            TriedReceived::Closed(value) => ParcelTried::Closed(value),
         }
     }
 

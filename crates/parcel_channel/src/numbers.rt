@@ -1,18 +1,19 @@
 //! Calls on the channel that carries the numbers.
-ghost use Rattle.std.specs.Prelude.{◌≡◌, true};
-ghost use Rattle.channel_model.specs.Answers.{OfferAnswer, GotAnswer, SettleAnswer, LookAnswer, WithdrawAnswer, CloseAnswer};
+ghost use Rattle.std.specs.Prelude.{◌≡◌, ◌^◌, ◌<◌, true};
+ghost use Rattle.std.specs.Int.Bits.{bit_or};
+ghost use Rattle.channel_model.specs.Answers.{OfferAnswer, GotAnswer, TriedGotAnswer, SettleAnswer, LookAnswer, WithdrawAnswer, CloseAnswer};
 ghost use Rattle.channel_model.specs.Answers.{WakeAnswer, VoidAnswer, DrainAnswer, IsOwn as IsOwnWaitOf, IsReady, IsSeenClosed};
 ghost use Rattle.channel_model.specs.Answers.{IsSeenVoided};
 ghost use Rattle.channel_model.specs.declared.acts.Why.TheVariants as why;
 ghost use Rattle.cell_words.specs.Hubs.{IsOwn, SameGiving};
 ghost use Rattle.cell_calls.specs.Desks.{desk_floor, desk_anchor};
 ghost use Rattle.cell_calls.specs.HubFloors.{hub_floor};
-ghost use Rattle.parcel_channel.specs.Numbers.{CarriesNumbers, AdmitsBelow, AdmitsAll};
+ghost use Rattle.parcel_channel.specs.Numbers.{CarriesNumbers, AdmitsBelow, AdmitsAll, bit_for};
 
 use cell_calls::Desk;
 use cell_words::{Hub, Pass};
 use channel_model::{
-    AlreadyClosed, ChannelFloor, Got, Offered, Settled, WaitState, Why, Withdrawn,
+    AlreadyClosed, ChannelFloor, Got, Offered, Settled, TriedGot, WaitState, Why, Withdrawn,
 };
 use co_base::{Place, Tag, Value, WaitId};
 
@@ -60,6 +61,29 @@ pub(crate) fn receive(hub: &Hub, pass: &mut Pass, who: Tag) -> Got
 {
     let mut desk = Desk { hub, pass };
     receive_on(&mut desk, who)
+}
+
+fn try_receive_on(desk: &mut Desk<'_>, who: Tag) -> TriedGot
+    requires channel { CarriesNumbers desk.old.hub.now }
+    requires caller { (desk_floor desk.old).callers who ≡ true }
+    ensures anchor { desk_anchor desk.new ≡ desk_anchor desk.old }
+    ensures own { IsOwn desk.old.hub.now desk.new.pass.now who }
+    ensures giving { SameGiving desk.old.pass.now desk.new.pass.now }
+    ensures answer { TriedGotAnswer who 0 (desk_floor desk.old) (hub_floor desk.old.hub.now desk.new.pass.now) result }
+{
+    desk.try_receive(who, 0)
+}
+
+/// Receives a number, if one is there.
+pub(crate) fn try_receive(hub: &Hub, pass: &mut Pass, who: Tag) -> TriedGot
+    requires channel { CarriesNumbers hub.now }
+    requires own { IsOwn hub.now pass.old who }
+    ensures own { IsOwn hub.now pass.new who }
+    ensures giving { SameGiving pass.old pass.new }
+    ensures answer { TriedGotAnswer who 0 (hub_floor hub.now pass.old) (hub_floor hub.now pass.new) result }
+{
+    let mut desk = Desk { hub, pass };
+    try_receive_on(&mut desk, who)
 }
 
 fn settle_on(desk: &mut Desk<'_>, who: Tag, w: WaitId, cancelled: bool) -> Settled
@@ -241,40 +265,63 @@ pub(crate) fn drain(hub: &Hub, pass: &mut Pass, who: Tag) -> Option<(Place, Valu
     drain_on(&mut desk, who)
 }
 
-/// Admits each offer below the mark for which the channel has room.
-fn admit_below(desk: &mut Desk<'_>, who: Tag, mark: Place)
+/// The bit of a tag.
+fn bit_of(tag: Tag) -> u32
+    ensures bit { result ≡ bit_for tag }
+    ensures few { result < 64 }
+{
+    if tag < 63 {
+        return tag as u32;
+    }
+    63
+}
+
+/// The set, with this tag.
+fn with_tag(set: u64, tag: Tag) -> u64
+    ensures { result ≡ bit_or set (2 ^ bit_for tag) }
+{
+    let bit = bit_of(tag);
+    set | (1u64 << bit)
+}
+
+/// Admits each offer below the mark for which the channel has room: the set of those whose offers they were.
+fn admit_below(desk: &mut Desk<'_>, who: Tag, mark: Place) -> u64
     requires channel { CarriesNumbers desk.old.hub.now }
     requires caller { (desk_floor desk.old).callers who ≡ true }
     ensures anchor { desk_anchor desk.new ≡ desk_anchor desk.old }
-    ensures admits { AdmitsBelow who mark (desk_floor desk.old) (desk_floor desk.new) }
+    ensures admits { AdmitsBelow who mark result (desk_floor desk.old) (desk_floor desk.new) }
 {
+    let mut set = 0;
     loop {
         match desk.admit(who, 0, mark) {
-            None => return,
-            Some(_) => {}
+            None => return set,
+            Some(found) => {
+                let more = with_tag(set, found.1);
+                set = more;
+            }
         }
     }
 }
 
-fn admit_on(desk: &mut Desk<'_>, who: Tag)
+fn admit_on(desk: &mut Desk<'_>, who: Tag) -> u64
     requires channel { CarriesNumbers desk.old.hub.now }
     requires caller { (desk_floor desk.old).callers who ≡ true }
     ensures anchor { desk_anchor desk.new ≡ desk_anchor desk.old }
     ensures own { IsOwn desk.old.hub.now desk.new.pass.now who }
     ensures giving { SameGiving desk.old.pass.now desk.new.pass.now }
-    ensures admits { AdmitsAll who (desk_floor desk.old) (hub_floor desk.old.hub.now desk.new.pass.now) }
+    ensures admits { AdmitsAll who result (desk_floor desk.old) (hub_floor desk.old.hub.now desk.new.pass.now) }
 {
     let mark = desk.mark(who, 0);
-    admit_below(desk, who, mark);
+    admit_below(desk, who, mark)
 }
 
-/// Admits each offer that came before this call and for which the channel has room.
-pub(crate) fn admit(hub: &Hub, pass: &mut Pass, who: Tag)
+/// Admits each offer that came before this call and for which the channel has room: the set of those whose offers they were.
+pub(crate) fn admit(hub: &Hub, pass: &mut Pass, who: Tag) -> u64
     requires channel { CarriesNumbers hub.now }
     requires own { IsOwn hub.now pass.old who }
     ensures own { IsOwn hub.now pass.new who }
     ensures giving { SameGiving pass.old pass.new }
-    ensures admits { AdmitsAll who (hub_floor hub.now pass.old) (hub_floor hub.now pass.new) }
+    ensures admits { AdmitsAll who result (hub_floor hub.now pass.old) (hub_floor hub.now pass.new) }
 {
     let mut desk = Desk { hub, pass };
     admit_on(&mut desk, who)

@@ -1,2 +1,0 @@
-pub mod ClosesSeen
-pub mod TagsEnded

@@ -9,6 +9,11 @@ module _ {T : Type 0} where
   abbrev pub IsMain : ParcelHub T → ParcelPass T → Type 0
   IsMain hub pass = IsOf hub pass × IsFirst pass × ((seen_by pass).given ≡ 2 ∷ 1 ∷ 0 ∷ []) × ((seen_by pass).tags ≡ 0 ∷ [])
 
+  -- the first of five
+  abbrev pub IsFirstOfFive : ParcelHub T → ParcelPass T → Type 0
+  IsFirstOfFive hub pass =
+      IsOf hub pass × IsFirst pass × ((seen_by pass).given ≡ 4 ∷ 3 ∷ 2 ∷ 1 ∷ 0 ∷ []) × ((seen_by pass).tags ≡ 0 ∷ [])
+
   -- one of the others
   abbrev pub IsOther : ℕ → ParcelHub T → ParcelPass T → Type 0
   IsOther t hub pass = IsOf hub pass × ((seen_by pass).tags ≡ t ∷ [])

@@ -1,5 +1,5 @@
 //! Calls on channels of owned values whose conditions follow from the calls before.
-ghost use Rattle.std.specs.Prelude.{◌≡◌, ◌≤◌, IfOk, IfSome};
+ghost use Rattle.std.specs.Prelude.{◌≡◌, ◌<◌, ◌≤◌, IfOk, IfSome};
 ghost use Rattle.channel_model.specs.declared.floor.WaitState.TheVariants as state;
 ghost use Rattle.channel_model.specs.Answers.{IsReady, IsSeenVoided};
 ghost use Rattle.parcel_channel.specs.Hubs.{IsOf, floor_by};
@@ -31,6 +31,7 @@ pub(crate) fn new_channel<T>(
     ensures main { IfOk result (λ r. IsMain r.0 r.1.main) }
     ensures one { IfOk result (λ r. IsOther 1 r.0 r.1.one) }
     ensures two { IfOk result (λ r. IsOther 2 r.0 r.1.two) }
+    ensures low { IfOk result (λ r. (r.1.one.tag < 63) × (r.1.two.tag < 63)) }
 {
     let (hub, mut main) = ParcelHub::new(alloc, kind, places, parcels)?;
     let one = hub.split(&mut main, 1);
@@ -99,7 +100,7 @@ pub(crate) fn send_first(
     ensures holds { IfSome result (λ w. HoldsWait pass.new.tag w (floor_by hub.now pass.new)) }
 {
     match hub.send(pass, value) {
-        ParcelSent::Waits(wait) => Some(wait),
+        ParcelSent::Waits(wait, _) => Some(wait),
         _ => None,
     }
 }

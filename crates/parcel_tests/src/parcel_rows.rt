@@ -6,7 +6,7 @@ use crate::parcel_calls::{
 };
 use channel_model::{Kind, WaitState, Withdrawn};
 use co_base::Value;
-use parcel_channel::{ParcelGot, ParcelSent, ParcelSettled};
+use parcel_channel::{ParcelGot, ParcelSent, ParcelSettled, ParcelTried};
 use std::test::Fail;
 
 #[test]
@@ -22,7 +22,7 @@ fn a_value_that_was_handed_to_a_cancelled_receiver_is_given_up(
     let Some(wait) = receive_first(&hub, &mut one) else {
         panic!(rt; "nobody sends yet")
     };
-    let sent = matches!(hub.send(&mut two, 70), ParcelSent::Sent(Some(1)));
+    let sent = matches!(hub.send(&mut two, 70), ParcelSent::Sent(Some(1), 0));
     let late = take_back(&hub, &mut one, wait) == Withdrawn::Late;
     let back = matches!(
         hub.settle(&mut one, wait, true),
@@ -75,7 +75,7 @@ fn a_closed_channel_gives_the_value_back(rt: HostRuntime) -> Result<(), Fail> {
 fn a_channel_without_a_place_gives_the_value_back(rt: HostRuntime) -> Result<(), Fail> {
     let (hub, three) = new_channel::<Value>(rt.alloc(), Kind::Unlimited, 1, 2)?;
     let Three { main, mut one, two } = three;
-    let sent = matches!(hub.send(&mut one, 70), ParcelSent::Sent(None));
+    let sent = matches!(hub.send(&mut one, 70), ParcelSent::Sent(None, 0));
     let back = matches!(hub.send(&mut one, 71), ParcelSent::Spent(71));
     let rest = rest_of(hub, main, one, two);
     let left = matches!(rest.as_slice(), [Some(70), None]);
@@ -114,11 +114,11 @@ fn an_admitted_value_is_drained(rt: HostRuntime) -> Result<(), Fail> {
         mut one,
         mut two,
     } = three;
-    let sent = matches!(hub.send(&mut one, 70), ParcelSent::Sent(None));
+    let sent = matches!(hub.send(&mut one, 70), ParcelSent::Sent(None, 0));
     let Some(wait) = send_first(&hub, &mut one, 71) else {
         panic!(rt; "the channel is full")
     };
-    let received = matches!(hub.receive(&mut two), ParcelGot::Value(70, None));
+    let received = matches!(hub.receive(&mut two), ParcelGot::Value(70, None, 2));
     let (closed, voided) = cancel(&hub, &mut one);
     let drained = matches!(drain_one(&hub, &mut one), Some((Some(71), None)));
     let no_more = drain_one(&hub, &mut one).is_none();
@@ -137,10 +137,66 @@ fn who_meets_another_has_seen_what_it_saw(rt: HostRuntime) -> Result<(), Fail> {
         mut one,
         mut two,
     } = three;
-    let sent = matches!(hub.send(&mut one, 70), ParcelSent::Sent(None));
+    let sent = matches!(hub.send(&mut one, 70), ParcelSent::Sent(None, 0));
     hub.meet(&mut two, &mut one);
-    let received = matches!(hub.receive(&mut two), ParcelGot::Value(70, None));
+    let received = matches!(hub.receive(&mut two), ParcelGot::Value(70, None, 0));
     let rest = rest_of(hub, main, one, two);
     assert_eq!(rt; [sent, received, are_empty(rest.as_slice())], [true; 3]);
+    Ok(())
+}
+
+#[test]
+fn a_receive_that_never_waits_takes_what_is_there(rt: HostRuntime) -> Result<(), Fail> {
+    let (hub, three) = new_channel::<Value>(rt.alloc(), Kind::Unlimited, 4, 4)?;
+    let Three {
+        main,
+        mut one,
+        mut two,
+    } = three;
+    let none = matches!(hub.try_receive(&mut two), ParcelTried::Empty);
+    let sent = matches!(hub.send(&mut one, 70), ParcelSent::Sent(None, 0));
+    let received = matches!(hub.try_receive(&mut two), ParcelTried::Value(70, None, 0));
+    let closed = hub.close(&mut one, 4).is_ok();
+    let ended = matches!(hub.try_receive(&mut two), ParcelTried::Closed(4));
+    let rest = rest_of(hub, main, one, two);
+    let found = [none, sent, received, closed, ended];
+    assert_eq!(rt; (found, are_empty(rest.as_slice())), ([true; 5], true));
+    Ok(())
+}
+
+#[test]
+fn a_channel_can_be_let_go_although_a_pass_was(rt: HostRuntime) -> Result<(), Fail> {
+    let (hub, three) = new_channel::<Value>(rt.alloc(), Kind::Unlimited, 4, 4)?;
+    let Three {
+        main: _main,
+        mut one,
+        mut two,
+    } = three;
+    let sent = [
+        matches!(hub.send(&mut one, 70), ParcelSent::Sent(None, 0)),
+        matches!(hub.send(&mut one, 71), ParcelSent::Sent(None, 0)),
+    ];
+    drop(one);
+    let received = matches!(hub.receive(&mut two), ParcelGot::Value(70, None, 0));
+    assert_eq!(rt; (sent, received), ([true; 2], true));
+    Ok(())
+}
+
+#[test]
+fn who_receives_names_whom_it_admits(rt: HostRuntime) -> Result<(), Fail> {
+    let (hub, three) = new_channel::<Value>(rt.alloc(), Kind::Buffered(1), 4, 4)?;
+    let Three {
+        mut main,
+        mut one,
+        mut two,
+    } = three;
+    let found = [
+        matches!(hub.send(&mut one, 70), ParcelSent::Sent(None, 0)),
+        matches!(hub.send(&mut two, 71), ParcelSent::Waits(_, 0)),
+        matches!(hub.receive(&mut main), ParcelGot::Value(70, None, 4)),
+        matches!(hub.receive(&mut main), ParcelGot::Value(71, None, 0)),
+    ];
+    let rest = rest_of(hub, main, one, two);
+    assert_eq!(rt; (found, are_empty(rest.as_slice())), ([true; 4], true));
     Ok(())
 }

@@ -31,7 +31,7 @@ fn send_box(
     ensures kept { Keeps hub.now pass.old pass.new }
 {
     match Box::new(alloc, number) {
-        Ok(value) => matches!(hub.send(pass, value), ParcelSent::Sent(_)),
+        Ok(value) => matches!(hub.send(pass, value), ParcelSent::Sent(_, _)),
         Err(_) => false,
     }
 }
@@ -95,7 +95,7 @@ fn next_box(hub: &ParcelHub<Box<u32>>, pass: &mut ParcelPass<Box<u32>>) -> Optio
     ensures kept { Keeps hub.now pass.old pass.new }
 {
     match hub.receive(pass) {
-        ParcelGot::Value(value, _) => Some(value),
+        ParcelGot::Value(value, _, _) => Some(value),
         ParcelGot::Waits(wait) => await_box(hub, pass, wait),
         _ => None,
     }
@@ -216,8 +216,8 @@ fn send_or_give_up(
         return Fate::Lost;
     };
     match hub.send(pass, value) {
-        ParcelSent::Sent(_) => Fate::Over,
-        ParcelSent::Waits(wait) => give_up(hub, pass, wait),
+        ParcelSent::Sent(_, _) => Fate::Over,
+        ParcelSent::Waits(wait, _) => give_up(hub, pass, wait),
         _ => Fate::Lost,
     }
 }
@@ -228,7 +228,7 @@ fn receive_or_give_up(hub: &ParcelHub<Box<u32>>, pass: &mut ParcelPass<Box<u32>>
     ensures kept { Keeps hub.now pass.old pass.new }
 {
     match hub.receive(pass) {
-        ParcelGot::Value(_, _) => Fate::Over,
+        ParcelGot::Value(_, _, _) => Fate::Over,
         ParcelGot::Waits(wait) => give_up(hub, pass, wait),
         _ => Fate::Lost,
     }

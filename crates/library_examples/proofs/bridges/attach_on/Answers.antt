@@ -1,6 +1,7 @@
 use Rattle.std.proofs.Common.{◌≡◌, ap, ◌∙◌, arith}
 use Rattle.job_model.proofs.Spans.{setting_then}
-use Rattle.job_words.specs.declared.size.ForestSize.{ForestSize}
+use Rattle.word_rules.specs.declared.size.ForestSize.{ForestSize}
+use Rattle.job_words.specs.Forests.{seen_by}
 use Rattle.forest_calls.proofs.PassesStayOwn.{stays_own}
 use Rattle.job_model.proofs.Own.{seen_attached, root_attached}
 use Rattle.library_examples.proofs.AttachedChild.{attach_same, look_same, same_callers}
@@ -11,7 +12,7 @@ attach-requires-clause-can c = record { caller = c.requires.caller; attached = r
 
 pub attach-requires-clause-tag : goal.attach-requires-clause-tag
 attach-requires-clause-tag c =
-    let two : c.args.ranger.now.pass.now.seat.me.0.key.coroutines ≡ 2 = ap (λ (k : ForestSize). k.coroutines) c.args.ranger.now.of.1
+    let two : (seen_by c.args.ranger.now.pass.now).key.coroutines ≡ 2 = ap (λ (k : ForestSize). k.coroutines) c.args.ranger.now.of.1
     ∙ c.requires.size in
     omega (arith, two)
 

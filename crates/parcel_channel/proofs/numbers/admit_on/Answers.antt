@@ -9,7 +9,7 @@ use Rattle.parcel_channel.proofs.numbers.admit_on.Goals as goal
 pub returns-clause-own : goal.returns-clause-own
 returns-clause-own c =
     let d = c.admit_below.new.desk in
-    let all : AdmitsAll c.args.who (desk_floor c.args.desk.now) (desk_floor d) =
+    let all : AdmitsAll c.args.who c.admit_below.result (desk_floor c.args.desk.now) (desk_floor d) =
     record {
       mark = c.mark-mark.result;
       marked = desk_floor c.mark-mark.new.self;
@@ -18,13 +18,14 @@ returns-clause-own c =
           c.admit_below.ensures.admits;
     } in
     stays_own c.args.desk.now d c.args.who (c.admit_below.ensures.anchor
-    ∙ c.mark-mark.ensures.anchor) (all_admits c.args.who (desk_floor c.args.desk.now) (desk_floor d) all).added.same.callers
+    ∙ c.mark-mark.ensures.anchor) (all_admits c.args.who c.admit_below.result (desk_floor c.args.desk.now) (desk_floor d)
+    all).added.same.callers
     c.requires.caller
 
 pub returns-clause-admits : goal.returns-clause-admits
 returns-clause-admits c =
     let d = c.admit_below.new.desk in
-    let all : AdmitsAll c.args.who (desk_floor c.args.desk.now) (desk_floor d) =
+    let all : AdmitsAll c.args.who c.admit_below.result (desk_floor c.args.desk.now) (desk_floor d) =
     record {
       mark = c.mark-mark.result;
       marked = desk_floor c.mark-mark.new.self;
@@ -33,7 +34,7 @@ returns-clause-admits c =
           c.admit_below.ensures.admits;
     } in
     answer_on c.args.desk.now d (c.admit_below.ensures.anchor
-    ∙ c.mark-mark.ensures.anchor) (λ f. AdmitsAll c.args.who (desk_floor c.args.desk.now) f) all
+    ∙ c.mark-mark.ensures.anchor) (λ f. AdmitsAll c.args.who c.admit_below.result (desk_floor c.args.desk.now) f) all
 
 pub admit_below-requires-clause-caller : goal.admit_below-requires-clause-caller
 admit_below-requires-clause-caller c = ap (λ f. f c.args.who) c.mark-mark.ensures.answer.0.same.callers ∙ c.requires.caller

@@ -4,7 +4,12 @@ use Rattle.parcel_channel.proofs.OwnWaits.{await_own}
 use Rattle.parcel_channel.proofs.waits.receive_next.Goals as goal
 
 pub returns-in-Taken-clause-answer : goal.returns-in-Taken-clause-answer
-returns-in-Taken-clause-answer c = (hub_floor c.args.hub.now c.receive.new.pass, c.in-Taken.ensures.answer, c.admit.ensures.admits)
+returns-in-Taken-clause-answer c = (
+  c.in-Taken._place,
+  hub_floor c.args.hub.now c.receive.new.pass,
+  c.in-Taken.ensures.answer,
+  c.admit-admitted.ensures.admits,
+)
 
 pub returns-in-Waiting-clause-own_wait : goal.returns-in-Waiting-clause-own_wait
 returns-in-Waiting-clause-own_wait c =

@@ -1,5 +1,5 @@
 use Rattle.parcel_channel.specs.Hubs.{floor_by}
-use Rattle.parcel_tests.proofs.ClosesSeen.{closed_seen, voided_seen}
+use Rattle.parcel_channel.proofs.ClosesSeen.{closed_seen, voided_seen}
 use Rattle.parcel_tests.proofs.parcel_calls.cancel.Goals as goal
 
 pub void-voided-requires-clause-closed : goal.void-voided-requires-clause-closed

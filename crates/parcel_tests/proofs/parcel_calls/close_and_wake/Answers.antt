@@ -1,5 +1,5 @@
 use Rattle.parcel_channel.specs.Hubs.{floor_by}
-use Rattle.parcel_tests.proofs.ClosesSeen.{closed_seen}
+use Rattle.parcel_channel.proofs.ClosesSeen.{closed_seen}
 use Rattle.parcel_tests.proofs.parcel_calls.close_and_wake.Goals as goal
 
 pub wake_closed-told-requires-clause-closed : goal.wake_closed-told-requires-clause-closed

@@ -1,6 +1,6 @@
 use Rattle.cell_words.proofs.LooksAtCells.{hub_legal}
 use Rattle.parcel_channel.specs.Hubs.{seen_by, floor_by}
-use Rattle.parcel_tests.proofs.ClosesSeen.{voided_still}
+use Rattle.parcel_channel.proofs.ClosesSeen.{voided_still}
 use Rattle.parcel_tests.proofs.parcel_calls.drain_one.Goals as goal
 
 pub returns-clause-voided : goal.returns-clause-voided

@@ -1,4 +1,4 @@
--- That a channel was closed or cancelled, as the answers of the calls show it.
+-- For callers: that a channel was closed or cancelled, as the answers of the calls show it.
 use Rattle.std.specs.Prelude.{ℕ, Bool, true, false, Option, Some, None, Result, Ok, Err, is_some}
 use Rattle.std.proofs.Common.{ap}
 use Rattle.channel_model.specs.declared.floor.AlreadyClosed.{AlreadyClosed}

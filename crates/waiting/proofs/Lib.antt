@@ -1,0 +1,3 @@
+pub mod StaysThen
+pub mod ClosesGo
+pub mod PollsTold

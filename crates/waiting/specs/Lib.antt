@@ -1,0 +1,7 @@
+pub mod Closes
+pub mod Once
+pub mod Sinks
+pub mod Stands
+pub mod Stops
+pub mod Streams
+pub mod Waits
