@@ -3,12 +3,14 @@
 
 All calls were made on one thread, so each took effect where its line stands. What no event shows is worked out: the receiver that an
 element was handed to, the place of an element, the waiting senders that were resolved. What a call answered is copied from its event,
-whatever the channel here would have answered, so that a wrong answer becomes a line that the checker refuses.
+whatever the channel here would have answered, so that a wrong answer becomes a line that the checker refuses. Lines of Jobs are copied as
+they are.
 """
 import sys
 from collections import deque
 
 KEEPS = {"buffered": 64}
+OF_JOBS = ("attach", "start", "endbody", "cancel", "finish", "gone", "saw", "sawend", "fail", "norow", "used", "parentended")
 CLOSED_WITH = 0
 
 
@@ -186,6 +188,8 @@ class Filling:
             self.tryreceive(who, self.channels[words[2]], words[3:])
         elif verb == "close":
             self.close(who, self.channels[words[2]], words[3])
+        elif verb in OF_JOBS:
+            self.out(" ".join(words))
         else:
             sys.exit(f"no event: {' '.join(words)}")
 
@@ -204,14 +208,16 @@ def answers_of(events):
 def fill(lines, out):
     filling = Filling(out)
     at = iter(lines)
+    numbers = []
     for line in at:
         words = line.split()
-        if words == ["events"]:
+        if words[0] == "events":
+            numbers = words[1:]
             break
         if words[0] == "channel":
             filling.channels[words[1]] = Channel(words)
         out(line)
-    out("history")
+    out(" ".join(["history", *numbers]))
     events = [line.split() for line in at]
     answers = answers_of(events)
     for number, words in enumerate(events):

@@ -1,3 +1,5 @@
 pub mod DeclaredKinds
+pub mod JobSteps
 pub mod NoteTests
 pub mod Walks
+pub mod OverBits

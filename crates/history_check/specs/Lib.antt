@@ -1,3 +1,4 @@
 pub mod Histories
+pub mod Overs
 pub mod Verdicts
 pub mod Steps

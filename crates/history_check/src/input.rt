@@ -3,6 +3,7 @@
 ghost use Rattle.std.specs.Prelude.{◌≡◌, ◌≤◌, length, IfOk, map};
 ghost use Rattle.script_grammar.specs.Programs.{shape_of};
 ghost use Rattle.script_reader.specs.Scripts.{program_of};
+ghost use Rattle.history_text.specs.Numbers.{shape_of as job_shape};
 ghost use Rattle.history_check.specs.Verdicts.{IsVerdict};
 
 use crate::history::check_history;
@@ -24,11 +25,16 @@ fn kinds_of(alloc: Global, channels: &[Channel]) -> Result<Vec<(Kind, u32)>, All
     Ok(kinds)
 }
 
-/// Checks the history of the channels that a text declares.
+/// Checks the history of channels and Jobs that a text has.
 pub fn check_input(alloc: Global, input: &Input) -> Result<Judgement, Memory>
     ensures { IfOk result (λ judgement.
-        IsVerdict (shape_of (program_of input.now.script)) input.now.lines.items judgement.verdict) }
+        IsVerdict (shape_of (program_of input.now.script)) (job_shape input.now.numbers) input.now.lines.items judgement.verdict) }
 {
     let kinds = kinds_of(alloc, input.script.channels())?;
-    check_history(alloc, kinds.as_slice(), input.lines.as_slice())
+    check_history(
+        alloc,
+        kinds.as_slice(),
+        input.numbers,
+        input.lines.as_slice(),
+    )
 }

@@ -8,14 +8,14 @@ ghost use Rattle.channel_model.specs.Histories.{replay};
 ghost use Rattle.note_book.specs.Items.{channel_act};
 ghost use Rattle.call_meaning.specs.Facts.{ChannelNoteHolds};
 ghost use Rattle.one_thread_floor.specs.ListFloors.{floor_of};
-ghost use Rattle.history_check.specs.Steps.{DecidesIfKnown, handed_at, is_value, listed, shows_closed, shows_drained, shows_empty, shows_full, shows_spent};
+ghost use Rattle.history_check.specs.Steps.{handed_at, is_value, listed, shows_closed, shows_drained, shows_empty, shows_full, shows_spent};
 
 use channel_model::{Act, ChannelNote, Kind};
 use co_base::{ChannelId, Value};
 use one_thread_floor::{ListFloor, Snapshot};
 
 /// The kind and the places of a channel.
-fn kind_of(kinds: &[(Kind, u32)], c: ChannelId) -> (Kind, u32)
+pub(crate) fn kind_of(kinds: &[(Kind, u32)], c: ChannelId) -> (Kind, u32)
     ensures { result ≡ slice_index_or kinds.now c (Signal, 0) }
 {
     if (c as usize) < kinds.len() {
@@ -87,33 +87,29 @@ fn act_holds(floor: &ListFloor, kinds: &[(Kind, u32)], act: &Act) -> bool
     }
 }
 
-/// Whether a note holds, if that is known: of the partner of a select's clause it is not.
-pub(crate) fn note_holds(
-    floor: &ListFloor,
-    kinds: &[(Kind, u32)],
-    note: &ChannelNote,
-) -> Option<bool>
-    ensures { DecidesIfKnown result (ChannelNoteHolds kinds.now note.now (replay (floor_of floor.now).seen)) }
+/// Whether a note holds.
+pub(crate) fn note_holds(floor: &ListFloor, kinds: &[(Kind, u32)], note: &ChannelNote) -> bool
+    ensures { Decides result (ChannelNoteHolds kinds.now note.now (replay (floor_of floor.now).seen)) }
 {
     match *note {
-        ChannelNote::Made(act) => Some(act_holds(floor, kinds, &act)),
-        ChannelNote::SendClosed { c, v, .. } => Some(shows_closed(v, &floor.snapshot(c))),
-        ChannelNote::TrySendClosed { c, v, .. } => Some(shows_closed(v, &floor.snapshot(c))),
-        ChannelNote::AlreadyClosed { c, v } => Some(shows_closed(v, &floor.snapshot(c))),
-        ChannelNote::ReceiveClosed { c, v } => Some(shows_drained(v, &floor.snapshot(c))),
-        ChannelNote::TryReceiveClosed { c, v } => Some(shows_drained(v, &floor.snapshot(c))),
+        ChannelNote::Made(act) => act_holds(floor, kinds, &act),
+        ChannelNote::SendClosed { c, v, .. } => shows_closed(v, &floor.snapshot(c)),
+        ChannelNote::TrySendClosed { c, v, .. } => shows_closed(v, &floor.snapshot(c)),
+        ChannelNote::AlreadyClosed { c, v } => shows_closed(v, &floor.snapshot(c)),
+        ChannelNote::ReceiveClosed { c, v } => shows_drained(v, &floor.snapshot(c)),
+        ChannelNote::TryReceiveClosed { c, v } => shows_drained(v, &floor.snapshot(c)),
         ChannelNote::Full { c, .. } => {
             let kind = kind_of(kinds, c);
-            Some(shows_full(kind.0, &floor.snapshot(c)))
+            shows_full(kind.0, &floor.snapshot(c))
         }
-        ChannelNote::Empty { c } => Some(shows_empty(&floor.snapshot(c))),
+        ChannelNote::Empty { c } => shows_empty(&floor.snapshot(c)),
         ChannelNote::Spent { c } => {
             let kind = kind_of(kinds, c);
-            Some(shows_spent(kind.1, &floor.snapshot(c)))
+            shows_spent(kind.1, &floor.snapshot(c))
         }
-        ChannelNote::Partner { .. } => None,
-        ChannelNote::MainResolved { w } => Some(floor.is_resolved(w)),
-        ChannelNote::Late { w } => Some(floor.is_resolved(w)),
+        ChannelNote::Partner { c, place } => floor.stands_at(c, place),
+        ChannelNote::MainResolved { w } => floor.is_resolved(w),
+        ChannelNote::Late { w } => floor.is_resolved(w),
     }
 }
 

@@ -1,6 +1,7 @@
 //! What is said of a history.
 
-use co_base::ChannelId;
+use co_base::{ChannelId, Row};
+use job_replay::JobLook;
 use one_thread_floor::Snapshot;
 
 /// What is said of a history. Its lines are numbered from 1.
@@ -12,18 +13,19 @@ pub enum Verdict {
     MayNotCome(usize),
     /// What this line says does not hold, and all lines before it are allowed.
     NotSo(usize),
-    /// Nothing is said from this line on.
-    NotKnown(usize),
 }
 
-/// What stood at a channel.
+/// What stood where a history stops.
 #[derive(Clone, Copy)]
-pub struct Stood {
-    pub c: ChannelId,
-    pub at: Snapshot,
+pub enum Stood {
+    /// At a channel.
+    Channel(ChannelId, Snapshot),
+    /// At the row of a Job, if there is one.
+    Job(Row, Option<JobLook>),
 }
 
-/// What is said of a history, and for a reader, without any promise, what stood at the channel of the line where it stops.
+/// What is said of a history, and for a reader, without any promise, what stood at the channel or the Job of the line
+/// where it stops.
 #[derive(Clone, Copy)]
 pub struct Judgement {
     pub verdict: Verdict,
@@ -36,5 +38,4 @@ pub(crate) enum Step {
     Good,
     MayNotCome,
     NotSo,
-    NotKnown,
 }

@@ -1,4 +1,4 @@
 mod LineLoops
-mod Parts
+pub mod Parts
 mod Waits
 mod WordCounts

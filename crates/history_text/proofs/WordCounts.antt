@@ -1,8 +1,10 @@
 -- Items with too few or too many words are none.
-use Rattle.std.proofs.Common.{◌≡◌, ℕ, ◌<◌, ◌≤◌, List, [], ◌∷◌, None, length, refl, arith}
+use Rattle.std.proofs.Common.{◌≡◌, ℕ, ◌<◌, ◌≤◌, ◌==◌, false, List, [], ◌∷◌, None, length, refl, arith}
 use denote.Ref.{Bor}
 use Rattle.report_reader.specs.Words.{texts}
 use Rattle.history_text.specs.Items.{await_by, ended_by, offer_by, plain_by}
+use Rattle.history_text.specs.JobItems.{attach_by, end_body_by}
+use Rattle.history_text.specs.Numbers.{numbers_by}
 
 pub plain_many : (names : List (List ℕ)) (verb : List ℕ) (ws : List (Bor (List ℕ))) → 4 ≤ length ws → None ≡ plain_by names verb (texts ws)
 plain_many names verb [] le = absurd (omega (arith, le))
@@ -49,3 +51,38 @@ offer_many names (a ∷ (b ∷ (c ∷ []))) le = absurd (omega (arith, le))
 offer_many names (a ∷ (b ∷ (c ∷ (d ∷ [])))) le = absurd (omega (arith, le))
 offer_many names (a ∷ (b ∷ (c ∷ (d ∷ (e ∷ []))))) le = absurd (omega (arith, le))
 offer_many names (a ∷ (b ∷ (c ∷ (d ∷ (e ∷ (f ∷ more)))))) le = refl
+
+pub attach_few : (ws : List (Bor (List ℕ))) → length ws < 6 → None ≡ attach_by (texts ws)
+attach_few [] lt = refl
+attach_few (a ∷ []) lt = refl
+attach_few (a ∷ (b ∷ [])) lt = refl
+attach_few (a ∷ (b ∷ (c ∷ []))) lt = refl
+attach_few (a ∷ (b ∷ (c ∷ (d ∷ [])))) lt = refl
+attach_few (a ∷ (b ∷ (c ∷ (d ∷ (e ∷ []))))) lt = refl
+attach_few (a ∷ (b ∷ (c ∷ (d ∷ (e ∷ (f ∷ more)))))) lt = absurd (omega (arith, lt))
+
+pub numbers_few : (ws : List (Bor (List ℕ))) → (length ws == 0) ≡ false → length ws < 4 → None ≡ numbers_by (texts ws)
+numbers_few [] e lt = cc
+numbers_few (a ∷ []) e lt = refl
+numbers_few (a ∷ (b ∷ [])) e lt = refl
+numbers_few (a ∷ (b ∷ (c ∷ []))) e lt = refl
+numbers_few (a ∷ (b ∷ (c ∷ (d ∷ more)))) e lt = absurd (omega (arith, lt))
+
+pub numbers_many : (ws : List (Bor (List ℕ))) → 5 ≤ length ws → None ≡ numbers_by (texts ws)
+numbers_many [] le = absurd (omega (arith, le))
+numbers_many (a ∷ []) le = absurd (omega (arith, le))
+numbers_many (a ∷ (b ∷ [])) le = absurd (omega (arith, le))
+numbers_many (a ∷ (b ∷ (c ∷ []))) le = absurd (omega (arith, le))
+numbers_many (a ∷ (b ∷ (c ∷ (d ∷ [])))) le = absurd (omega (arith, le))
+numbers_many (a ∷ (b ∷ (c ∷ (d ∷ (e ∷ more))))) le = refl
+
+pub end_body_few : (ws : List (Bor (List ℕ))) → length ws < 2 → None ≡ end_body_by (texts ws)
+end_body_few [] lt = refl
+end_body_few (a ∷ []) lt = refl
+end_body_few (a ∷ (b ∷ more)) lt = absurd (omega (arith, lt))
+
+pub end_body_many : (ws : List (Bor (List ℕ))) → 3 ≤ length ws → None ≡ end_body_by (texts ws)
+end_body_many [] le = absurd (omega (arith, le))
+end_body_many (a ∷ []) le = absurd (omega (arith, le))
+end_body_many (a ∷ (b ∷ [])) le = absurd (omega (arith, le))
+end_body_many (a ∷ (b ∷ (c ∷ more))) le = refl

@@ -2,21 +2,22 @@
 use Rattle.std.specs.Prelude.{◌≡◌, ℕ, Bool, true, false, List, [], ◌∷◌, ◌++◌, Vec, Option, Some, None, Result, Ok, Err}
 use Rattle.std.specs.Global.{Global}
 use lib.Chars.{codes}
+use Rattle.job_model.specs.Trees.{Shape}
+use Rattle.report_reader.specs.Words.{words_of}
 use Rattle.history_text.specs.declared.line.Line.{Line}
 use Rattle.history_text.specs.declared.lines.NoLines.{NoLines}
 use Rattle.history_text.specs.declared.lines.NoLines.TheVariants as no_lines
+use Rattle.history_text.specs.Numbers.{shape_by}
 
 -- the lines that make a script of channels alone: a main that does nothing
 abbrev pub no_coroutine : List ℕ
 no_coroutine = codes "coroutine main\nend\n"
 
--- the line between the channels and the history
-abbrev pub mark : List ℕ
-mark = codes "history\n"
-
--- a text in two parts, with the line between them
-abbrev pub IsCut : List ℕ → List ℕ → List ℕ → Type 0
-IsCut header text bytes = bytes ≡ header ++ (mark ++ text)
+-- a text in two parts, with the line between them, which has these numbers
+pub record IsCut (jobs : Shape) (header text bytes : List ℕ) : Type 0 where
+  pub line : List ℕ
+  pub mark : shape_by (words_of line) ≡ Some jobs
+  pub bytes_are : bytes ≡ header ++ (line ++ 10 ∷ text)
 
 -- this is the number of the line at fault, unless memory ran out
 abbrev pub FaultIs : NoLines → Result (List Line) ℕ → Type 0

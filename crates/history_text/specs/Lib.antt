@@ -1,5 +1,7 @@
 pub mod Words
 pub mod Items
+pub mod JobItems
 pub mod Lines
+pub mod Numbers
 pub mod Inputs
 pub mod Readings

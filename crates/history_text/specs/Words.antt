@@ -1,4 +1,4 @@
--- What a word names: a coroutine, a clause or a wait. A channel is named as a script declares it.
+-- What a word names: a coroutine, the row of a Job, a clause or a wait. A channel is named as a script declares it.
 use Rattle.std.specs.Prelude.{ℕ, List, [], ◌∷◌, ◌==◌, nat_lt, Option, Some, None, if◌then◌else◌}
 use Rattle.std.specs.List.{slice_split}
 use Rattle.co_base.specs.declared.names.WaitId.{WaitId}
@@ -13,6 +13,10 @@ below bound (Some n) = if nat_lt n bound then Some n else None
 -- the tag that a word says
 abbrev pub tag_at : List ℕ → Option ℕ
 tag_at word = below 65536 (value_at word)
+
+-- the row of a Job that a word says
+abbrev pub row_at : List ℕ → Option ℕ
+row_at word = below 65536 (value_at word)
 
 -- the number of a clause that a word says
 abbrev pub clause_at : List ℕ → Option ℕ

@@ -1,25 +1,29 @@
-//! The channels and the lines that a text has.
+//! The channels, the numbers and the lines that a text has.
 
-ghost use Rattle.std.specs.Prelude.{◌≡◌, ◌≤◌, ◌++◌, IfErr, IfOk, IfSome, length, map, string_bytes};
-ghost use Rattle.report_reader.specs.Words.{texts};
+ghost use Rattle.std.specs.Prelude.{◌≡◌, ◌≤◌, ◌++◌, IfErr, IfOk, IfSome, Some, length, map, string_bytes};
+ghost use Rattle.report_reader.specs.Words.{texts, words_of};
 ghost use Rattle.script_grammar.specs.Grammar.{Spells};
 ghost use Rattle.script_grammar.specs.Programs.{channel_names};
 ghost use Rattle.script_reader.specs.Scripts.{program_of};
 ghost use Rattle.history_text.specs.Inputs.{GivesLines, IsCut, no_coroutine};
 ghost use Rattle.history_text.specs.Lines.{history_of};
+ghost use Rattle.history_text.specs.Numbers.{shape_by, shape_of};
 ghost use Rattle.history_text.specs.Readings.{IsFaulty, IsRead, IsReadAs, IsRefused, IsRefusedAs};
 
+use crate::job_numbers::JobNumbers;
 use crate::line::Line;
 use crate::lines::{NoLines, lines_in};
-use report_reader::cut_at;
+use crate::numbers::shape_by;
+use report_reader::{cut_at, words_of};
 use script_grammar::{FaultKind, ScriptFault};
 use script_reader::{Channel, Script, read};
 use std::alloc::{AllocError, Global};
 
-/// The channels that a text declares, and the lines of its history.
+/// The channels that a text declares, how many coroutines and scopes it speaks of, and the lines of its history.
 #[derive(Drop)]
 pub struct Input {
     pub script: Script,
+    pub numbers: JobNumbers,
     pub lines: Vec<Line>,
 }
 
@@ -36,23 +40,39 @@ pub enum NoInput {
     Memory,
 }
 
-/// What stands before the line `history`, and what stands behind it.
-fn cut_at_history(bytes: &[u8]) -> Option<(&[u8], &[u8])>
-    ensures { IfSome result (λ cut. IsCut cut.0.now cut.1.now bytes.now) }
+/// The numbers that a line has, if it is the one before a history. The vector is a place for its words.
+#[tactic(auto, using(crate::proofs::Parts::marked))]
+fn mark_at<'a>(words: &mut Vec<&'a [u8]>, line: &'a [u8]) -> Result<Option<JobNumbers>, AllocError>
+    ensures { IfOk result (λ found. IfSome found (λ numbers. shape_by (words_of line.now) ≡ Some (shape_of numbers))) }
 {
+    if !line.starts_with(b"history") {
+        return Ok(None);
+    }
+    words_of(words, line)?;
+    Ok(shape_by(words.as_slice()))
+}
+
+/// What stands before the line of a history, the numbers that this line has, and what stands behind it.
+fn cut_at_history(
+    alloc: Global,
+    bytes: &[u8],
+) -> Result<Option<(&[u8], JobNumbers, &[u8])>, AllocError>
+    ensures { IfOk result (λ found. IfSome found (λ cut. IsCut (shape_of cut.1) cut.0.now cut.2.now bytes.now)) }
+{
+    let mut words = Vec::new(alloc);
     let mut at = 0usize;
     while at <= bytes.len() {
         let (header, rest) = bytes.split_at(at);
-        if let Some(text) = rest.strip_prefix(b"history\n") {
-            return Some((header, text));
-        }
-        let (_, more) = cut_at(b'\n', rest);
-        let Some(next) = more else {
-            return None;
+        let (line, more) = cut_at(b'\n', rest);
+        let Some(text) = more else {
+            return Ok(None);
         };
-        at = bytes.len() - next.len();
+        if let Some(numbers) = mark_at(&mut words, line)? {
+            return Ok(Some((header, numbers, text)));
+        }
+        at = bytes.len() - text.len();
     }
-    None
+    Ok(None)
 }
 
 /// The text of a script of these channels alone.
@@ -103,31 +123,44 @@ fn lines_of(alloc: Global, script: &Script, text: &[u8]) -> Result<Vec<Line>, No
     lines_in(alloc, names.as_slice(), text)
 }
 
-/// The channels that these lines declare, and the lines of this history of them.
-fn input_of(alloc: Global, header: &[u8], text: &[u8]) -> Result<Input, NoInput>
+/// The channels that these lines declare, and the lines of this history of them and of so many Jobs.
+fn input_of(
+    alloc: Global,
+    header: &[u8],
+    numbers: JobNumbers,
+    text: &[u8],
+) -> Result<Input, NoInput>
     requires { length text.now ≤ 67108864 }
+    ensures numbers { IfOk result (λ input. shape_of input.numbers ≡ shape_of numbers) }
     ensures ok { IfOk result (λ input. IsReadAs input header.now text.now) }
     ensures err { IfErr result (λ why. IsRefusedAs why header.now text.now) }
 {
     let script = script_of(alloc, header)?;
     match lines_of(alloc, &script, text) {
-        Ok(lines) => Ok(Input { script, lines }),
+        Ok(lines) => Ok(Input {
+            script,
+            numbers,
+            lines,
+        }),
         Err(NoLines::AtLine(number)) => Err(NoInput::NoItem(number)),
         Err(NoLines::Memory) => Err(NoInput::Memory),
     }
 }
 
-/// Reads the channels that a text declares, and its history of them.
+/// Reads the channels that a text declares, and its history of them and of Jobs.
 ///
 /// The lines before the line `history` are those of a script that has channels alone; the first fault of such a script is told, or the
-/// number of the first line of the history that is none.
+/// number of the first line of the history that is none. The line `history` may go on with the numbers of coroutines and scopes,
+/// `history coroutines 3 scopes 1`: together at most 16,000; without them there is the root alone.
+#[tactic(auto, using(crate::proofs::Parts::read_of, crate::proofs::Parts::refused_as))]
 pub fn read_input(alloc: Global, bytes: &[u8]) -> Result<Input, NoInput>
     requires { length bytes.now ≤ 67108864 }
     ensures ok { IfOk result (λ input. IsRead input bytes.now) }
     ensures err { IfErr result (λ why. IsRefused why bytes.now) }
 {
-    match cut_at_history(bytes) {
-        Some((header, text)) => input_of(alloc, header, text),
-        None => Err(NoInput::NoHistory),
+    match cut_at_history(alloc, bytes) {
+        Ok(Some((header, numbers, text))) => input_of(alloc, header, numbers, text),
+        Ok(None) => Err(NoInput::NoHistory),
+        Err(_) => Err(NoInput::Memory),
     }
 }

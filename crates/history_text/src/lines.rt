@@ -3,11 +3,15 @@
 ghost use Rattle.std.specs.Prelude.{◌≡◌, ◌≤◌, [], IfOk, length};
 ghost use Rattle.report_reader.specs.Words.{lines_of, texts, without_last_feed};
 ghost use Rattle.history_text.specs.Inputs.{GivesLines, LeavesAt, LeavesLine};
-ghost use Rattle.history_text.specs.Lines.{history_of, line_by, line_of, lines_from};
+ghost use Rattle.history_text.specs.Items.{item_by};
+ghost use Rattle.history_text.specs.JobItems.{job_item_by};
+ghost use Rattle.history_text.specs.Lines.{either_item, history_of, line_by, line_of, lines_from};
 
 use crate::items::item_by;
+use crate::job_items::job_item_by;
 use crate::line::Line;
 use crate::words::tag_at;
+use note_book::Item;
 use report_reader::{cut_at, words_of};
 use std::alloc::{AllocError, Global};
 
@@ -20,6 +24,20 @@ pub(crate) enum NoLines {
     Memory,
 }
 
+/// The item that a verb and the words behind it are, of a channel or of a Job.
+fn either_item(names: &[&[u8]], verb: &[u8], words: &[&[u8]]) -> Option<Item>
+    requires { length names.now ≤ 65536 }
+    ensures { result ≡ either_item (item_by (texts names.now) verb.now (texts words.now)) (job_item_by verb.now (texts words.now)) }
+{
+    match item_by(names, verb, words) {
+        Some(note) => Some(Item::Channel(note)),
+        None => match job_item_by(verb, words) {
+            Some(note) => Some(Item::Job(note)),
+            None => None,
+        },
+    }
+}
+
 /// The line that these words are.
 fn line_by(names: &[&[u8]], words: &[&[u8]]) -> Option<Line>
     requires { length names.now ≤ 65536 }
@@ -29,8 +47,8 @@ fn line_by(names: &[&[u8]], words: &[&[u8]]) -> Option<Line>
         return None;
     };
     let who = tag_at(*tag)?;
-    let note = item_by(names, *verb, rest)?;
-    Some(Line { who, note })
+    let item = either_item(names, *verb, rest)?;
+    Some(Line { who, item })
 }
 
 /// The line of a text without line feeds. The vector is a place for its words.

@@ -1,12 +1,12 @@
-//! Channels, waits and numbers in a line.
+//! Channels, waits, rows and numbers in a line.
 
 ghost use Rattle.std.specs.Prelude.{◌≡◌, ◌≤◌, ◌∷◌, ◌==◌, length};
 ghost use Rattle.std.specs.List.{slice_split};
 ghost use Rattle.report_reader.specs.Words.{parts, texts};
 ghost use Rattle.script_grammar.specs.Places.{place_from};
-ghost use Rattle.history_text.specs.Words.{clause_at, tag_at, wait_at, wait_by};
+ghost use Rattle.history_text.specs.Words.{clause_at, row_at, tag_at, wait_at, wait_by};
 
-use co_base::{ChannelId, Tag, WaitId};
+use co_base::{ChannelId, Row, Tag, WaitId};
 use report_reader::{cut_at, value_of};
 
 /// The number of the channel of this name.
@@ -34,6 +34,13 @@ pub(crate) fn tag_at(word: &[u8]) -> Option<Tag>
         Some(number) if number < 65536 => Some(number as u16),
         _ => None,
     }
+}
+
+/// The row of a Job that a word says.
+pub(crate) fn row_at(word: &[u8]) -> Option<Row>
+    ensures { result ≡ row_at word.now }
+{
+    tag_at(word)
 }
 
 /// The number of a clause that a word says.

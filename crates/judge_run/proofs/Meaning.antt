@@ -3,6 +3,7 @@ use Rattle.std.proofs.Common.{◌≡◌, Bool, List, ℕ, refl, sym, subst, true
 use Rattle.co_base.specs.Streams.{Gave, IsDrained}
 use Rattle.script_reader.specs.Scripts.{program_of}
 use Rattle.history_text.specs.declared.input.Input.{Input}
+use Rattle.history_text.specs.Numbers.{shape_of}
 use Rattle.history_text.specs.Readings.{IsRead}
 use Rattle.history_check.specs.declared.verdict.Verdict.{Verdict}
 use Rattle.history_check.specs.declared.verdict.Verdict.TheVariants as verdict
@@ -75,13 +76,19 @@ says_of : (v : Verdict) (input : List ℕ) → IsOf v input → Says (said_of v)
 says_of verdict.Legal input is = is
 says_of (verdict.MayNotCome n) input is = is
 says_of (verdict.NotSo n) input is = is
-says_of (verdict.NotKnown n) input is = is
 
 -- what is said of an input that was read
 pub judged_of : (input : Input) (bytes : List ℕ) (r : Result Answer Outcome) → IsRead input bytes → IsJudged input r → IsMadeOf bytes r
 judged_of input bytes (Ok answer) read j = (
   subst (λ s. Says s bytes) (sym j.said_is)
-      (says_of j.v bytes (record { program = program_of input.script; lines = input.lines.items; has = read; verdict = j.verdict })),
+      (says_of j.v bytes
+      (record {
+        program = program_of input.script;
+        jobs = shape_of input.numbers;
+        lines = input.lines.items;
+        has = read;
+        verdict = j.verdict;
+      })),
   j.line,
 )
 judged_of input bytes (Err outcomes.NoHistory) read j = absurd j

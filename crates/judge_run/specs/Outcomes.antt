@@ -1,13 +1,15 @@
 -- What each outcome of a call says of the words, of what was read and of what was written.
-use Rattle.std.specs.Prelude.{◌≡◌, ℕ, ◌<◌, Bool, true, false, List, Option, Some, None, Result, Ok, Err, String, length, map, string_bytes}
+use Rattle.std.specs.Prelude.{◌≡◌, ℕ, Bool, true, false, List, Option, Some, None, Result, Ok, Err, String, map, string_bytes}
 use Rattle.std.specs.Global.{Global}
 use Rattle.std.specs.Vec.Iter.{into_iter_items}
 use Rattle.std.specs.declared.vec.IntoIter.{IntoIter}
 use Rattle.co_base.specs.Streams.{Rose, Gave, GaveJust, IsDrained, Took, TookPart}
+use Rattle.job_model.specs.Trees.{Shape}
 use Rattle.script_grammar.specs.Programs.{Program, shape_of}
 use Rattle.script_reader.specs.Scripts.{program_of}
 use Rattle.history_text.specs.declared.input.Input.{Input}
 use Rattle.history_text.specs.declared.line.Line.{Line}
+use Rattle.history_text.specs.Numbers.{shape_of as job_shape}
 use Rattle.history_text.specs.Readings.{HasFault, HasHistory}
 use Rattle.history_check.specs.declared.verdict.Verdict.{Verdict}
 use Rattle.history_check.specs.declared.verdict.Verdict.TheVariants as verdict
@@ -29,7 +31,6 @@ abbrev pub number_of_said : Said → ℕ
 number_of_said said.Legal = 0
 number_of_said (said.MayNotCome n) = 1
 number_of_said (said.NotSo n) = 1
-number_of_said (said.NotKnown n) = 4
 number_of_said (said.NoItem n) = 1
 number_of_said (said.Fault fault) = 3
 
@@ -59,22 +60,21 @@ abbrev pub said_of : Verdict → Said
 said_of verdict.Legal = said.Legal
 said_of (verdict.MayNotCome n) = said.MayNotCome n
 said_of (verdict.NotSo n) = said.NotSo n
-said_of (verdict.NotKnown n) = said.NotKnown n
 
--- the bytes declare channels and have a history of them, of which the verdict is so
+-- the bytes declare channels and have a history of them and of so many Jobs, of which the verdict is so
 pub record IsOf (v : Verdict) (input : List ℕ) : Type 0 where
   pub program : Program
+  pub jobs : Shape
   pub lines : List Line
-  pub has : HasHistory program (Ok lines) input
-  pub verdict : IsVerdict (shape_of program) lines v
+  pub has : HasHistory program jobs (Ok lines) input
+  pub verdict : IsVerdict (shape_of program) jobs lines v
 
 -- what is said of the bytes of an input
 abbrev pub Says : Said → List ℕ → Type 0
 Says said.Legal input = IsOf verdict.Legal input
 Says (said.MayNotCome n) input = IsOf (verdict.MayNotCome n) input
 Says (said.NotSo n) input = IsOf (verdict.NotSo n) input
-Says (said.NotKnown n) input = IsOf (verdict.NotKnown n) input
-Says (said.NoItem n) input = (program : Program) × HasHistory program (Err n) input
+Says (said.NoItem n) input = (program : Program) × (jobs : Shape) × HasHistory program jobs (Err n) input
 Says (said.Fault fault) input = HasFault fault input
 
 -- ---- calls
@@ -143,7 +143,7 @@ IsToldAs what (Err other) = ⊥
 pub record IsJudgedAs (input : Input) (answer : Answer) : Type 0 where
   pub v : Verdict
   pub said_is : answer.said ≡ said_of v
-  pub verdict : IsVerdict (shape_of (program_of input.script)) input.lines.items v
+  pub verdict : IsVerdict (shape_of (program_of input.script)) (job_shape input.numbers) input.lines.items v
   pub line : HasLine answer.said answer.text.items
 
 abbrev pub IsJudged : Input → Result Answer Outcome → Type 0

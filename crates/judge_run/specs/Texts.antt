@@ -32,7 +32,6 @@ abbrev pub said_text : Said → List ℕ
 said_text said.Legal = codes "legal\n"
 said_text (said.MayNotCome n) = codes "line " ++ decimal n ++ codes ": may not come\n"
 said_text (said.NotSo n) = codes "line " ++ decimal n ++ codes ": not so\n"
-said_text (said.NotKnown n) = codes "line " ++ decimal n ++ codes ": not known\n"
 said_text (said.NoItem n) = codes "line " ++ decimal n ++ codes ": no item\n"
 said_text (said.Fault fault) = fault_text fault
 

@@ -17,8 +17,6 @@ pub enum Said {
     MayNotCome(usize),
     /// What this line says does not hold.
     NotSo(usize),
-    /// Nothing is known from this line on.
-    NotKnown(usize),
     /// This line is no item of a coroutine.
     NoItem(u32),
     /// What stands before the history does not declare channels.
@@ -68,7 +66,6 @@ fn number_of_said(said: Said) -> u8
         Said::Legal => 0,
         Said::MayNotCome(_) | Said::NotSo(_) | Said::NoItem(_) => 1,
         Said::Fault(_) => 3,
-        Said::NotKnown(_) => 4,
     }
 }
 

@@ -4,9 +4,12 @@ ghost use Rattle.std.specs.Prelude.{◌≡◌, ◌++◌, IfOk, Some, string_byte
 ghost use Rattle.judge_run.specs.Texts.{HasLine, fault_text, kind_text, said_text};
 
 use crate::outcome::Said;
-use co_base::Memory;
+use co_base::{ChannelId, Memory, Row};
 use history_check::Stood;
 use history_text::{FaultKind, Input, ScriptFault};
+use job_model::{Cause, JobState};
+use job_replay::JobLook;
+use one_thread_floor::Snapshot;
 use std::alloc::{AllocError, Global};
 use std::fmt;
 
@@ -56,13 +59,13 @@ fn line_of(alloc: Global, said: Said) -> Result<String, AllocError>
         Said::Legal => format!(in alloc; "legal\n"),
         Said::MayNotCome(line) => format!(in alloc; "line {line}: may not come\n"),
         Said::NotSo(line) => format!(in alloc; "line {line}: not so\n"),
-        Said::NotKnown(line) => format!(in alloc; "line {line}: not known\n"),
         Said::NoItem(line) => format!(in alloc; "line {line}: no item\n"),
         Said::Fault(fault) => fault_line(alloc, fault),
     }
 }
 
-/// The text of what is said: its line, and then, without any promise, what stood at the channel of the line at fault.
+/// The text of what is said: its line, and then, without any promise, what stood at the channel or the Job of the line
+/// at fault.
 pub(crate) fn text_of(
     alloc: Global,
     said: Said,
@@ -92,38 +95,81 @@ fn hint_if_any(
     stood: Option<Stood>,
 ) -> Result<Vec<u8>, AllocError> {
     match (input, stood) {
-        (Some(input), Some(stood)) => hint_of(alloc, input, stood),
+        (Some(input), Some(Stood::Channel(c, at))) => channel_hint(alloc, input, c, at),
+        (Some(_), Some(Stood::Job(row, look))) => job_hint(alloc, row, look),
         _ => Ok(Vec::new(alloc)),
     }
 }
 
 /// What stood at a channel, in words.
-fn hint_of(alloc: Global, input: &Input, stood: Stood) -> Result<Vec<u8>, AllocError> {
+fn channel_hint(
+    alloc: Global,
+    input: &Input,
+    c: ChannelId,
+    at: Snapshot,
+) -> Result<Vec<u8>, AllocError> {
     let mut text = Vec::new(alloc);
     let channels = input.script.channels();
-    if channels.len() <= stood.c as usize {
+    if channels.len() <= c as usize {
         return Ok(text);
     }
-    let name = channels[stood.c as usize].name.as_str();
-    let next = stood.at.next;
-    let queued = stood.at.queued;
+    let name = channels[c as usize].name.as_str();
+    let next = at.next;
+    let queued = at.queued;
     let first = format!(in alloc; "{name}: place {next} is next, {queued} queued")?;
     text.extend_from_slice(first.as_bytes())?;
-    if let Some(offer) = stood.at.first_offer {
+    if let Some(offer) = at.first_offer {
         let value = offer.value;
         let place = offer.place;
         let part = format!(in alloc; ", first {value} at place {place}")?;
         text.extend_from_slice(part.as_bytes())?;
     }
-    if let Some(receiver) = stood.at.first_receiver {
+    if let Some(receiver) = at.first_receiver {
         let place = receiver.place;
         let part = format!(in alloc; ", a receiver waits at place {place}")?;
         text.extend_from_slice(part.as_bytes())?;
     }
-    if let Some(value) = stood.at.closed {
+    if let Some(value) = at.closed {
         let part = format!(in alloc; ", closed with {value}")?;
         text.extend_from_slice(part.as_bytes())?;
     }
     text.extend_from_slice(b"\n")?;
+    Ok(text)
+}
+
+/// How far a Job is, as it is printed: with its result where it has one.
+fn state_text(alloc: Global, job: JobLook) -> Result<String, AllocError> {
+    let value = job.value;
+    match job.state {
+        JobState::New => format!(in alloc; "new"),
+        JobState::Active => format!(in alloc; "active"),
+        JobState::Completing => format!(in alloc; "completing with {value}"),
+        JobState::Cancelling => format!(in alloc; "cancelling"),
+        JobState::Cancelled => format!(in alloc; "cancelled"),
+        JobState::Completed => format!(in alloc; "completed with {value}"),
+    }
+}
+
+/// What stood at the row of a Job, in words.
+fn job_hint(alloc: Global, row: Row, look: Option<JobLook>) -> Result<Vec<u8>, AllocError> {
+    let mut text = Vec::new(alloc);
+    let first = format!(in alloc; "row {row}: ")?;
+    text.extend_from_slice(first.as_bytes())?;
+    let Some(job) = look else {
+        text.extend_from_slice(b"not attached\n")?;
+        return Ok(text);
+    };
+    let state = state_text(alloc, job)?;
+    text.extend_from_slice(state.as_bytes())?;
+    if let Cause::Failure(failed) = job.cause {
+        let part = format!(in alloc; " by the failure of {failed}")?;
+        text.extend_from_slice(part.as_bytes())?;
+    }
+    if job.body_ended {
+        text.extend_from_slice(b", its body has ended")?;
+    }
+    let living = job.living;
+    let part = format!(in alloc; ", {living} of its children live\n")?;
+    text.extend_from_slice(part.as_bytes())?;
     Ok(text)
 }

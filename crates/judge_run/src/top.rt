@@ -20,7 +20,8 @@ pub struct Answer {
     pub text: Vec<u8>,
 }
 
-/// Does what the words ask for, of which the first is the program's name: reads channels and a history, and writes what is said of it.
+/// Does what the words ask for, of which the first is the program's name: reads channels and a history, and writes what is said
+/// of it.
 ///
 /// The order is words, input, answer; the text is made whole before its first byte is written.
 pub fn judge_main<S: Source, K: Sink>(
@@ -122,7 +123,6 @@ fn said_of(verdict: Verdict) -> Said
         Verdict::Legal => Said::Legal,
         Verdict::MayNotCome(line) => Said::MayNotCome(line),
         Verdict::NotSo(line) => Said::NotSo(line),
-        Verdict::NotKnown(line) => Said::NotKnown(line),
     }
 }
 

@@ -7,6 +7,7 @@ use Rattle.script_grammar.specs.Programs.{Declared}
 use Rattle.script_reader.specs.Scripts.{program_of}
 use Rattle.script_reader.specs.declared.script.Channel.{Channel}
 use Rattle.script_reader.specs.Programs.{declared_of}
+use Rattle.history_text.specs.Numbers.{shape_of}
 use Rattle.history_check.specs.Verdicts.{IsVerdict}
 use Rattle.history_check.proofs.DeclaredKinds.{all_may_be_made, declared_kinds}
 use Rattle.history_check.proofs.input.check_input.Goals as goal
@@ -28,8 +29,10 @@ check_history-requires-clause-kinds c =
 pub returns : goal.returns
 returns c =
     let p = program_of c.args.input.now.script in
-    subst (λ ks. IfOk c.check_history.result (λ judgement. IsVerdict ks c.args.input.now.lines.items judgement.verdict))
+    subst (λ ks. IfOk c.check_history.result
+    (λ judgement. IsVerdict ks (shape_of c.args.input.now.numbers) c.args.input.now.lines.items judgement.verdict))
     (kinds_are c.as_slice.result.now c.in_ok-kinds.kinds.items c.channels.result.now p.channels c.as_slice.ensures.value
     c.in_ok-kinds.ensures c.channels.ensures)
-    (subst (λ ls. IfOk c.check_history.result (λ judgement. IsVerdict c.as_slice.result.now ls judgement.verdict))
+    (subst (λ ls. IfOk c.check_history.result
+    (λ judgement. IsVerdict c.as_slice.result.now (shape_of c.args.input.now.numbers) ls judgement.verdict))
     c.as_slice-2.ensures.value c.check_history.ensures)

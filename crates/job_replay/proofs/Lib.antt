@@ -1,0 +1,4 @@
+pub mod May
+pub mod After
+pub mod TreeCalls
+pub mod Walks

@@ -1,0 +1,6 @@
+pub mod Sizes
+pub mod Rows
+pub mod Tests
+pub mod Changes
+pub mod Replays
+pub mod Verdicts

@@ -1,0 +1,152 @@
+//! Histories of Jobs, and what is said of each, worked out by hand: of the root and one coroutine.
+
+use crate::history::{JobVerdict, check_jobs};
+use co_base::Memory;
+use job_model::{Cause, End, JobAct, JobEntry, JobKind, Reason};
+use std::alloc::Global;
+use std::test::Fail;
+
+macro_rules! entry {
+    ($who:expr, $act:expr) => {
+        JobEntry {
+            who: $who,
+            act: $act,
+        }
+    };
+}
+
+macro_rules! attach {
+    () => {
+        entry!(
+            0,
+            JobAct::Attach {
+                parent: 0,
+                row: 1,
+                kind: JobKind {
+                    supervisor: false,
+                    scoped: false,
+                    lazy: false,
+                },
+                tag: 1,
+                cancelled: false,
+            }
+        )
+    };
+}
+
+macro_rules! end_body {
+    ($who:expr, $row:expr, $value:expr) => {
+        entry!(
+            $who,
+            JobAct::EndBody {
+                row: $row,
+                value: $value,
+            }
+        )
+    };
+}
+
+macro_rules! finish {
+    ($row:expr, $end:expr) => {
+        entry!(
+            $row,
+            JobAct::Finish {
+                row: $row,
+                end: $end,
+            }
+        )
+    };
+}
+
+macro_rules! gone {
+    () => {
+        entry!(1, JobAct::Gone { row: 1 })
+    };
+}
+
+macro_rules! cancel {
+    ($row:expr, $reason:expr) => {
+        entry!(
+            1,
+            JobAct::Cancel {
+                row: $row,
+                reason: $reason,
+            }
+        )
+    };
+}
+
+/// The child ends, and then the root.
+const ENDS: [JobEntry; 6] = [
+    attach!(),
+    end_body!(1, 1, 7),
+    finish!(1, End::Completed(7)),
+    gone!(),
+    end_body!(0, 0, 0),
+    finish!(0, End::Completed(0)),
+];
+
+/// The root ends before its child.
+const TOO_EARLY: [JobEntry; 3] = [attach!(), end_body!(0, 0, 0), finish!(0, End::Completed(0))];
+
+/// The parent is told twice.
+const TWICE: [JobEntry; 5] = [
+    attach!(),
+    end_body!(1, 1, 7),
+    finish!(1, End::Completed(7)),
+    gone!(),
+    gone!(),
+];
+
+/// The Job ends with another result than its body.
+const OTHER_RESULT: [JobEntry; 3] = [attach!(), end_body!(1, 1, 7), finish!(1, End::Completed(8))];
+
+/// Another coroutine ends the body.
+const OTHER_BODY: [JobEntry; 2] = [attach!(), end_body!(0, 1, 7)];
+
+/// The child fails, and the root with it.
+const FAILS: [JobEntry; 8] = [
+    attach!(),
+    cancel!(1, Reason::Own(1)),
+    end_body!(1, 1, 0),
+    finish!(1, End::Cancelled(Cause::Failure(1))),
+    cancel!(0, Reason::Child(1)),
+    gone!(),
+    end_body!(0, 0, 0),
+    finish!(0, End::Cancelled(Cause::Failure(1))),
+];
+
+/// The root completes although its child's failure cancelled it.
+const COMPLETES: [JobEntry; 8] = [
+    attach!(),
+    cancel!(1, Reason::Own(1)),
+    end_body!(1, 1, 0),
+    finish!(1, End::Cancelled(Cause::Failure(1))),
+    cancel!(0, Reason::Child(1)),
+    gone!(),
+    end_body!(0, 0, 0),
+    finish!(0, End::Completed(0)),
+];
+
+/// The number of the entry that may not come, or 0.
+fn stopped(alloc: Global, entries: &[JobEntry]) -> Result<usize, Memory> {
+    match check_jobs(alloc, 2, 0, entries)? {
+        JobVerdict::Legal => Ok(0),
+        JobVerdict::MayNotCome(number) => Ok(number),
+    }
+}
+
+#[test]
+fn each_history_stops_where_its_fault_is(rt: HostRuntime) -> Result<(), Fail> {
+    let found = [
+        stopped(rt.alloc(), &ENDS)?,
+        stopped(rt.alloc(), &TOO_EARLY)?,
+        stopped(rt.alloc(), &TWICE)?,
+        stopped(rt.alloc(), &OTHER_RESULT)?,
+        stopped(rt.alloc(), &OTHER_BODY)?,
+        stopped(rt.alloc(), &FAILS)?,
+        stopped(rt.alloc(), &COMPLETES)?,
+    ];
+    assert_eq!(rt; found, [0, 3, 5, 3, 2, 0, 8]);
+    Ok(())
+}
