@@ -8,7 +8,7 @@ use Rattle.report_picture.specs.declared.picture.Drawn.{Drawn}
 use Rattle.report_picture.specs.declared.picture.Spot.{Spot}
 use Rattle.report_picture.specs.declared.picture.Lost.{Lost}
 use Rattle.report_picture.specs.declared.picture.Picture.{Picture}
-use Rattle.report_picture.specs.Elements.{Node, attributes_text, document_attributes, escaped, fate_nodes, fate_nodes_of, head_nodes, line_node, mark_node, node_text, nodes_text, picture_nodes, style_node, svg_text, title_text}
+use Rattle.report_picture.specs.Elements.{Node, attributes_text, document_attributes, escaped, fate_nodes, fate_nodes_of, head_nodes, line_node, mark_node, names_in, node_text, nodes_text, picture_nodes, style_node, svg_text, title_text}
 use Rattle.report_picture.specs.WellFormed.{IsName, Attributes, no_more, attribute, Content, no_content, words_then, element_then, IsDocument}
 
 -- ---- names
@@ -42,11 +42,11 @@ named_lines : (p : Picture) (lines : List Drawn) → AllNamed (map (line_node p)
 named_lines p [] = tt
 named_lines p (d ∷ lines) = (record { by_name = refl; all = (refl, (refl, (refl, tt))) }, named_lines p lines)
 
-named_heads : (top : ℕ) (columns : List Column) → AllNamed (head_nodes top columns)
-named_heads top [] = tt
-named_heads top (c ∷ columns) = (
+named_heads : (names : List (List ℕ)) (top : ℕ) (columns : List Column) → AllNamed (head_nodes names top columns)
+named_heads names top [] = tt
+named_heads names top (c ∷ columns) = (
   record { by_name = refl; all = (refl, (refl, (refl, tt))) },
-  (record { by_name = refl; all = (refl, (refl, (refl, tt))) }, named_heads top columns),
+  (record { by_name = refl; all = (refl, (refl, (refl, tt))) }, named_heads names top columns),
 )
 
 named_fate : (at : Option Spot) (line : List ℕ) → AllNamed (fate_nodes_of at line)
@@ -63,7 +63,8 @@ named p = (
   record { by_name = refl; all = tt },
   named-append (map mark_node p.marks.items) _ (named_marks p.marks.items)
       (named-append (fate_nodes p.lost.items) _ (named_fates p.lost.items)
-      (named-append (head_nodes p.top p.columns.items) _ (named_heads p.top p.columns.items) (named_lines p p.lines.items))),
+      (named-append (head_nodes (names_in p) p.top p.columns.items) _ (named_heads (names_in p) p.top p.columns.items)
+      (named_lines p p.lines.items))),
 )
 
 -- ---- elements
@@ -132,7 +133,7 @@ abbrev fates_text : Picture → List ℕ
 fates_text p = nodes_text (fate_nodes p.lost.items)
 
 abbrev heads_text : Picture → List ℕ
-heads_text p = nodes_text (head_nodes p.top p.columns.items)
+heads_text p = nodes_text (head_nodes (names_in p) p.top p.columns.items)
 
 abbrev texts_of_lines : Picture → List ℕ
 texts_of_lines p = nodes_text (map (line_node p) p.lines.items)
@@ -145,7 +146,7 @@ parts_append p =
     (nodes_append (map mark_node p.marks.items) _
     ∙ ap (λ t. marks_text p ++ t)
     (nodes_append (fate_nodes p.lost.items) _
-    ∙ ap (λ t. fates_text p ++ t) (nodes_append (head_nodes p.top p.columns.items) (map (line_node p) p.lines.items))))
+    ∙ ap (λ t. fates_text p ++ t) (nodes_append (head_nodes (names_in p) p.top p.columns.items) (map (line_node p) p.lines.items))))
 
 regroup_parts : (h s m f t l e : List ℕ) → h ++ s ++ m ++ f ++ t ++ l ++ e ≡ h ++ (s ++ (m ++ (f ++ (t ++ l)))) ++ e
 regroup_parts h s m f t l e = simp append_assoc
@@ -160,12 +161,12 @@ pub whole : (p : Picture) (marks : List Mark) (lost : List Lost) (columns : List
     → lines ≡ p.lines.items → o₀ ≡ []
     → o₁ ≡ o₀ ++ codes "<svg" ++ attributes_text (document_attributes p.width p.height) ++ codes ">\n"
     → o₂ ≡ o₁ ++ node_text style_node → o₃ ≡ o₂ ++ nodes_text (map mark_node marks) → o₄ ≡ o₃ ++ nodes_text (fate_nodes lost)
-    → o₅ ≡ o₄ ++ nodes_text (head_nodes p.top columns) → o₆ ≡ o₅ ++ nodes_text (map (line_node p) lines)
+    → o₅ ≡ o₄ ++ nodes_text (head_nodes (names_in p) p.top columns) → o₆ ≡ o₅ ++ nodes_text (map (line_node p) lines)
     → o₇ ≡ o₆ ++ codes "</svg>\n" → o₇ ≡ svg_text p
 whole p marks lost columns lines o₀ o₁ o₂ o₃ o₄ o₅ o₆ o₇ em ef ec el e₀ e₁ e₂ e₃ e₄ e₅ e₆ e₇ =
     e₇ ∙ ap (λ o. o ++ codes "</svg>\n")
     (e₆ ∙ ap (λ ls. o₅ ++ nodes_text (map (line_node p) ls)) el ∙ ap (λ o. o ++ texts_of_lines p)
-    (e₅ ∙ ap (λ cs. o₄ ++ nodes_text (head_nodes p.top cs)) ec ∙ ap (λ o. o ++ heads_text p)
+    (e₅ ∙ ap (λ cs. o₄ ++ nodes_text (head_nodes (names_in p) p.top cs)) ec ∙ ap (λ o. o ++ heads_text p)
     (e₄ ∙ ap (λ fs. o₃ ++ nodes_text (fate_nodes fs)) ef ∙ ap (λ o. o ++ fates_text p)
     (e₃ ∙ ap (λ ms. o₂ ++ nodes_text (map mark_node ms)) em ∙ ap (λ o. o ++ marks_text p)
     (e₂ ∙ ap (λ o. o ++ node_text style_node)

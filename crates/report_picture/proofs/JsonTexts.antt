@@ -1,8 +1,9 @@
 -- The text of a trace is well-formed JSON.
-use Rattle.std.proofs.Common.{◌≡◌, ℕ, List, [], ◌∷◌, ◌++◌, Bool, true, false, sym, subst, append_assoc, map}
+use Rattle.std.proofs.Common.{◌≡◌, ℕ, List, [], ◌∷◌, ◌++◌, Bool, true, false, sym, subst, append_assoc, append-nil, map}
 use Rattle.std.specs.Fmt.{decimal}
 use lib.Chars.{codes}
 use Rattle.report_picture.specs.Json.{Json, value, members, elements, number, text, object, array, last_member, member_then, last_element, element_then, quoted}
+use Rattle.picture_parts.specs.Members.{arguments_text, field_text, fields_text, instant_fields, naming_fields, slice_fields, source_text}
 use Rattle.report_picture.specs.declared.trace.Track.{Track}
 use Rattle.report_picture.specs.declared.trace.Moment.{Moment}
 use Rattle.report_picture.specs.declared.trace.Happening.{Happening}
@@ -10,7 +11,7 @@ use Rattle.report_picture.specs.declared.trace.Happening.TheVariants.{Lasts, Lea
 use Rattle.report_picture.specs.declared.trace.Event.{Event}
 use Rattle.report_picture.specs.declared.trace.Trace.{Trace}
 use Rattle.report_picture.specs.Elements.{label_of}
-use Rattle.report_picture.specs.Traces.{IsJson, arguments_text, elements_text, event_text, field_text, fields_text, happening_fields, last_text, moment_fields, moment_text, naming_fields, object_text, slice_fields, trace_text, track_name, track_number, track_of, track_text}
+use Rattle.report_picture.specs.Traces.{IsJson, elements_text, event_text, happening_fields, last_text, moment_fields, moment_text, object_text, trace_text, track_name, track_number, track_of, track_text}
 
 -- ---- an event
 
@@ -29,27 +30,37 @@ with_fields (f ∷ fields) rest are more =
     subst (Json members) (sym (append_assoc (field_text f.0 f.1) (fields_text fields) rest))
     (one_field f.0 f.1 (fields_text fields ++ rest) are.0 (with_fields fields rest are.1 more))
 
+-- the members of the last member
+inner : (name words source : List ℕ) → Json members (quoted name ++ codes ":" ++ quoted words ++ source_text source)
+inner name words [] =
+    subst (Json members) (sym (append-nil (quoted name ++ codes ":" ++ quoted words))) (last_member name (quoted words) (text words))
+inner name words (b ∷ source) =
+    subst (Json members)
+    (append_assoc (quoted name ++ codes ":" ++ quoted words) (codes ",") (quoted (codes "script") ++ codes ":" ++ quoted (b ∷ source)))
+    (member_then name (quoted words) (quoted (codes "script") ++ codes ":" ++ quoted (b ∷ source)) (text words)
+    (last_member (codes "script") (quoted (b ∷ source)) (text (b ∷ source))))
+
 -- the last member
-arguments : (name words : List ℕ) → Json members (arguments_text name words)
-arguments name words =
-    last_member (codes "args") (codes "{" ++ (quoted name ++ codes ":" ++ quoted words) ++ codes "}")
-    (object (quoted name ++ codes ":" ++ quoted words) (last_member name (quoted words) (text words)))
+arguments : (name words source : List ℕ) → Json members (arguments_text name words source)
+arguments name words source =
+    last_member (codes "args") (codes "{" ++ (quoted name ++ codes ":" ++ quoted words ++ source_text source) ++ codes "}")
+    (object (quoted name ++ codes ":" ++ quoted words ++ source_text source) (inner name words source))
 
 regroup_object : (o a b c d f e k : List ℕ) → o ++ (a ++ (b ++ (c ++ (d ++ (f ++ e))))) ++ k ≡ o ++ a ++ b ++ c ++ d ++ f ++ e ++ k
 regroup_object o a b c d f e k = simp append_assoc
 
-an_object : (name category : List ℕ) (track : ℕ) (fields : List (List ℕ × List ℕ)) (argument words : List ℕ) → AreFields fields
-    → Json value (object_text name category track fields argument words)
-an_object name category track fields argument words are =
+an_object : (name category : List ℕ) (track : ℕ) (fields : List (List ℕ × List ℕ)) (argument words source : List ℕ) → AreFields fields
+    → Json value (object_text name category track fields argument words source)
+an_object name category track fields argument words source are =
     subst (Json value)
     (regroup_object (codes "{") (field_text (codes "name") (quoted name)) (field_text (codes "cat") (quoted category))
     (field_text (codes "pid") (decimal 1)) (field_text (codes "tid") (decimal track)) (fields_text fields)
-    (arguments_text argument words) (codes "}"))
+    (arguments_text argument words source) (codes "}"))
     (object _ (one_field (codes "name") (quoted name) _ (text name)
     (one_field (codes "cat") (quoted category) _ (text category)
     (one_field (codes "pid") (decimal 1) _ (number 1)
     (one_field (codes "tid") (decimal track) _ (number track)
-    (with_fields fields (arguments_text argument words) are (arguments argument words)))))))
+    (with_fields fields (arguments_text argument words source) are (arguments argument words source)))))))
 
 -- ---- what happens
 
@@ -69,17 +80,18 @@ namings : AreFields naming_fields
 namings = (text (codes "M"), tt)
 
 an_event : (e : Event) → Json value (event_text e)
-an_event e = an_object e.name.now e.category.now e.track (happening_fields e.happening) (codes "line") e.line.now (happens e.happening)
+an_event e = an_object e.name.now e.category.now e.track (happening_fields e.happening) (codes "line") e.line.now e.source.now
+    (happens e.happening)
 
 a_moment : (m : Moment) → Json value (moment_text m)
 a_moment m =
     an_object (label_of m.line.text.now) (codes "line") (track_of m.line.said) (moment_fields m.joined m.at) (codes "line") m.line.text.now
-    (moments m.joined m.at)
+    m.source.now (moments m.joined m.at)
 
-a_track : (t : Track) → Json value (track_text t)
-a_track t =
+a_track : (names : List (List ℕ)) (t : Track) → Json value (track_text names t)
+a_track names t =
     an_object (codes "thread_name") (codes "") (track_number t.is_job t.number) naming_fields (codes "name")
-    (track_name t.is_job t.number) namings
+    (track_name names t.is_job t.number) [] namings
 
 -- ---- the whole
 
@@ -93,13 +105,15 @@ all_elements f is (x ∷ xs) rest more =
 the_last : Json elements (last_text ++ codes "\n")
 the_last =
     last_element last_text
-    (an_object (codes "process_name") (codes "") 0 naming_fields (codes "name") (codes "run") namings)
+    (an_object (codes "process_name") (codes "") 0 naming_fields (codes "name") (codes "run") [] namings)
 
 all_events : (t : Trace)
-    → Json elements (elements_text (map track_text t.tracks.items) ++ (elements_text (map moment_text t.moments.items)
+    → Json elements (elements_text (map (track_text (map (λ n. n.items) t.names.now)) t.tracks.items)
+    ++ (elements_text (map moment_text t.moments.items)
     ++ (elements_text (map event_text t.events.items) ++ (last_text ++ codes "\n"))))
 all_events t =
-    all_elements track_text a_track t.tracks.items _ (all_elements moment_text a_moment t.moments.items _
+    all_elements (track_text (map (λ n. n.items) t.names.now)) (a_track (map (λ n. n.items) t.names.now)) t.tracks.items _
+    (all_elements moment_text a_moment t.moments.items _
     (all_elements event_text an_event t.events.items _ the_last))
 
 regroup_whole : (p u q o t m e l c k n : List ℕ)
@@ -113,6 +127,7 @@ is_json t = (
       (last_member (codes "traceEvents") _ (array _ (all_events t)))),
   sym
       (regroup_whole (codes "{") (field_text (codes "displayTimeUnit") (quoted (codes "ms"))) (quoted (codes "traceEvents") ++ codes ":")
-      (codes "[\n") (elements_text (map track_text t.tracks.items)) (elements_text (map moment_text t.moments.items))
+      (codes "[\n") (elements_text (map (track_text (map (λ n. n.items) t.names.now)) t.tracks.items))
+      (elements_text (map moment_text t.moments.items))
       (elements_text (map event_text t.events.items)) (last_text ++ codes "\n") (codes "]") (codes "}") (codes "\n")),
 )

@@ -1,20 +1,21 @@
 -- A picture as a text: a sequence diagram of Mermaid.
-use Rattle.std.specs.Prelude.{◌≡◌, ℕ, List, [], ◌∷◌, ◌++◌, Option, Some, None, slice_get}
+use Rattle.std.specs.Prelude.{◌≡◌, ℕ, List, [], ◌∷◌, ◌++◌, Option, Some, None, map, slice_get}
 use Rattle.std.specs.Fmt.{decimal}
 use Rattle.std.specs.List.Sorted.{IsPermutation, IsNonDecreasingBy}
 use lib.Chars.{codes}
+use Rattle.picture_parts.specs.Names.{heading}
 use Rattle.report_picture.specs.declared.picture.Column.{Column}
 use Rattle.report_picture.specs.declared.picture.Drawn.{Drawn}
 use Rattle.report_picture.specs.declared.picture.Picture.{Picture}
 
-abbrev pub column_text : Column → List ℕ
-column_text column =
-    codes "    participant c" ++ decimal column.tag ++ codes " as coroutine " ++ decimal column.tag ++ codes ", Job " ++ decimal column.tag
+abbrev pub column_text : List (List ℕ) → Column → List ℕ
+column_text names column =
+    codes "    participant c" ++ decimal column.tag ++ codes " as " ++ heading names column.tag ++ codes ", Job " ++ decimal column.tag
     ++ codes "\n"
 
-abbrev pub columns_text : List Column → List ℕ
-columns_text [] = []
-columns_text (column ∷ columns) = column_text column ++ columns_text columns
+abbrev pub columns_text : List (List ℕ) → List Column → List ℕ
+columns_text names [] = []
+columns_text names (column ∷ columns) = column_text names column ++ columns_text names columns
 
 -- the head of a line: the other coroutine that it concerns, and else that it is a note of its own coroutine
 abbrev pub head_text : ℕ → Option ℕ → List ℕ
@@ -41,4 +42,5 @@ pub record IsDiagramOf (picture : Picture) (text : List ℕ) : Type 0 where
   pub lines : List Drawn
   pub once : IsPermutation picture.lines.items lines
   pub downwards : IsNonDecreasingBy (λ d. d.row) lines
-  pub is_text : text ≡ codes "sequenceDiagram\n" ++ columns_text picture.columns.items ++ lines_text picture.columns.items lines
+  pub is_text : text ≡ codes "sequenceDiagram\n" ++ columns_text (map (λ n. n.items) picture.names.now) picture.columns.items
+      ++ lines_text picture.columns.items lines

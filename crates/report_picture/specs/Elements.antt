@@ -4,6 +4,8 @@ use Rattle.std.specs.List.{join_with_byte}
 use denote.Ref.{Bor}
 use Rattle.std.specs.Fmt.{decimal}
 use lib.Chars.{codes}
+pub use Rattle.picture_parts.specs.Markup.{attribute_text, escaped, fate_label, rest_text, title_text}
+use Rattle.picture_parts.specs.Names.{heading, with_source}
 use Rattle.report_reader.specs.Words.{words_of}
 use Rattle.report_picture.specs.declared.looks.Look.{Look}
 use Rattle.report_picture.specs.declared.looks.Look.TheVariants.{Paper, Life, Past, Tick, Wait, Brings, Joins, Cancels, Lost, Foot, Hangs, Label}
@@ -13,6 +15,7 @@ use Rattle.report_picture.specs.declared.looks.State.{State}
 use Rattle.report_picture.specs.declared.looks.State.TheVariants.{New, Active, Completing, Cancelling, Completed, Cancelled, Failed}
 use Rattle.report_picture.specs.declared.picture.Way.{Way}
 use Rattle.report_picture.specs.declared.picture.Way.TheVariants.{Down, Bent, Cross}
+use Rattle.report_picture.specs.declared.picture.Title.{Title}
 use Rattle.report_picture.specs.declared.picture.Mark.{Mark}
 use Rattle.report_picture.specs.declared.picture.Mark.TheVariants.{Box, Path, Text}
 use Rattle.report_picture.specs.declared.picture.Column.{Column}
@@ -20,23 +23,6 @@ use Rattle.report_picture.specs.declared.picture.Drawn.{Drawn}
 use Rattle.report_picture.specs.declared.picture.Spot.{Spot}
 use Rattle.report_picture.specs.declared.picture.Lost.{Lost as Fate}
 use Rattle.report_picture.specs.declared.picture.Picture.{Picture}
-use Rattle.report_picture.specs.LineWords.{word}
-
--- ---- texts
-
--- a byte of a text that is no markup
-abbrev pub escape : ℕ → List ℕ
-escape b =
-    if b == 60 then codes "&lt;"
-    else if b == 62 then codes "&gt;"
-    else if b == 38 then codes "&amp;"
-    else if b == 34 then codes "&quot;"
-    else b ∷ []
-
--- a text that is no markup
-abbrev pub escaped : List ℕ → List ℕ
-escaped [] = []
-escaped (b ∷ text) = escape b ++ escaped text
 
 -- ---- elements
 
@@ -47,20 +33,9 @@ pub record Node : Type 0 where
   pub title : List ℕ
   pub text : List ℕ
 
-abbrev pub attribute_text : List ℕ → List ℕ → List ℕ
-attribute_text name value = codes " " ++ name ++ codes "=\"" ++ escaped value ++ codes "\""
-
 abbrev pub attributes_text : List (List ℕ × List ℕ) → List ℕ
 attributes_text [] = []
 attributes_text (a ∷ attributes) = attribute_text a.0 a.1 ++ attributes_text attributes
-
-abbrev pub title_text : List ℕ → List ℕ
-title_text [] = []
-title_text (b ∷ title) = codes "<title>" ++ escaped (b ∷ title) ++ codes "</title>"
-
--- what stands behind the attributes, to the end of the element
-abbrev pub rest_text : List ℕ → List ℕ → List ℕ → List ℕ
-rest_text name title text = codes ">" ++ title_text title ++ escaped text ++ codes "</" ++ name ++ codes ">\n"
 
 -- the text of an element, and a line feed
 abbrev pub node_text : Node → List ℕ
@@ -138,11 +113,15 @@ path_node way look title = record {
   text = [];
 }
 
+-- what a reader is shown that points at a mark
+abbrev pub title_of : Title → List ℕ
+title_of title = with_source title.line.now title.source.now
+
 -- the element of a mark
 abbrev pub mark_node : Mark → Node
-mark_node (Box x y width height look title) = box_node x y width height look title.now
-mark_node (Path way look title) = path_node way look title.now
-mark_node (Text x y look text title) = text_node x y (look_word look) text.items title.now
+mark_node (Box x y width height look title) = box_node x y width height look (title_of title)
+mark_node (Path way look title) = path_node way look (title_of title)
+mark_node (Text x y look text title) = text_node x y (look_word look) text.items (title_of title)
 
 -- ---- lines
 
@@ -173,21 +152,13 @@ abbrev pub left_of : List Column → ℕ → ℕ
 left_of columns column = left_or (slice_get columns column)
 
 -- the element of a line of a book: it is next to the bar of its column, in its row below the first one drawn, and its title is the whole
--- line
+-- line, and below it that of the script
 abbrev pub line_node : Picture → Drawn → Node
 line_node picture drawn =
     text_node (left_of picture.columns.items drawn.column) (row_y picture.top (drawn.row - picture.first) + 4) (codes "line")
-    (label_of drawn.line.text.now) drawn.line.text.now
+    (label_of drawn.line.text.now) (with_source drawn.line.text.now drawn.source.now)
 
 -- ---- fates
-
--- what became of an element, by the line that tells it
-abbrev pub fate_of : List ℕ → List ℕ
-fate_of line = word 4 line
-
--- an element that was not received: its channel, its place, its value and its fate, by the line that tells it
-abbrev pub fate_label : List ℕ → List ℕ
-fate_label line = word 1 line ++ codes "." ++ word 2 line ++ codes ": " ++ word 3 line ++ codes " " ++ fate_of line
 
 abbrev pub fate_node : Spot → List ℕ → Node
 fate_node spot line = text_node spot.x spot.y (codes "fate") (fate_label line) line
@@ -207,16 +178,20 @@ fate_nodes (lost ∷ more) = fate_nodes_of lost.at lost.line.text.now ++ fate_no
 abbrev pub head_node : ℕ → ℕ → List ℕ → Node
 head_node left y text = text_node left y (codes "head") text []
 
-abbrev pub coroutine_node : ℕ → Column → Node
-coroutine_node top column = head_node column.left top (codes "coroutine " ++ decimal column.tag)
+abbrev pub coroutine_node : List (List ℕ) → ℕ → Column → Node
+coroutine_node names top column = head_node column.left top (heading names column.tag)
+
+-- the Job of a row
+abbrev pub job_heading : ℕ → List ℕ
+job_heading row = codes "Job " ++ decimal row
 
 abbrev pub job_node : ℕ → Column → Node
-job_node top column = head_node column.left (top + 16) (codes "Job " ++ decimal column.tag)
+job_node top column = head_node column.left (top + 16) (job_heading column.tag)
 
 -- each column is headed by its coroutine, and the Job that this runs as
-abbrev pub head_nodes : ℕ → List Column → List Node
-head_nodes top [] = []
-head_nodes top (column ∷ columns) = coroutine_node top column ∷ (job_node top column ∷ head_nodes top columns)
+abbrev pub head_nodes : List (List ℕ) → ℕ → List Column → List Node
+head_nodes names top [] = []
+head_nodes names top (column ∷ columns) = coroutine_node names top column ∷ (job_node top column ∷ head_nodes names top columns)
 
 -- ---- the picture
 
@@ -244,12 +219,16 @@ abbrev pub document_attributes : ℕ → ℕ → List (List ℕ × List ℕ)
 document_attributes width height =
     (codes "xmlns", codes "http://www.w3.org/2000/svg") ∷ ((codes "width", decimal width) ∷ ((codes "height", decimal height) ∷ []))
 
+-- the names of the coroutines of a picture
+abbrev pub names_in : Picture → List (List ℕ)
+names_in picture = map (λ n. n.items) picture.names.now
+
 -- the elements of a picture: its marks, the ends of elements, the heads of its columns, and its lines; no mark looks like one of these
 abbrev pub picture_nodes : Picture → List Node
 picture_nodes picture =
     style_node ∷ (map mark_node picture.marks.items
     ++ (fate_nodes picture.lost.items
-    ++ (head_nodes picture.top picture.columns.items ++ map (line_node picture) picture.lines.items)))
+    ++ (head_nodes (names_in picture) picture.top picture.columns.items ++ map (line_node picture) picture.lines.items)))
 
 -- a picture as a text
 abbrev pub svg_text : Picture → List ℕ

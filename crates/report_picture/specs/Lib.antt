@@ -1,4 +1,3 @@
-pub mod LineWords
 pub mod Pictures
 pub mod Elements
 pub mod WellFormed

@@ -8,7 +8,7 @@ use Rattle.report_picture.specs.declared.sources.Place.{Place}
 use Rattle.report_picture.specs.declared.sources.Place.TheVariants.{InPicture, InReport}
 use Rattle.report_picture.specs.declared.sources.Sources.{Sources}
 use Rattle.report_picture.specs.declared.columns.Wanted.{Wanted}
-use Rattle.report_picture.specs.LineWords.{tells, word}
+use Rattle.picture_parts.specs.LineWords.{tells, word}
 use Rattle.report_picture.specs.Pictures.{is_drawn}
 
 -- ---- what two lines share

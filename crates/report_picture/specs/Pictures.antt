@@ -8,13 +8,10 @@ use Rattle.report_reader.specs.Reading.{told}
 use Rattle.report_picture.specs.declared.columns.Wanted.{Wanted}
 use Rattle.report_picture.specs.declared.picture.Column.{Column}
 use Rattle.report_picture.specs.declared.picture.Drawn.{Drawn}
-use Rattle.report_picture.specs.LineWords.{is_bookkeeping}
+use Rattle.picture_parts.specs.LineWords.{is_bookkeeping}
+pub use Rattle.picture_parts.specs.Places.{column_of, is_among}
 
 -- ---- the columns
-
-abbrev pub is_among : ℕ → List ℕ → Bool
-is_among tag [] = false
-is_among tag (other ∷ tags) = if other == tag then true else is_among tag tags
 
 -- the tag is asked for, is not there, and fits: a picture has at most 64 columns
 abbrev pub is_new : Wanted → List ℕ → ℕ → Bool
@@ -58,17 +55,6 @@ last_text edge [] = edge
 last_text edge (column ∷ columns) = last_text column.text columns
 
 -- ---- the lines
-
--- the place of a tag among these, the first of which has the number i
-abbrev pub place_from : ℕ → ℕ → List ℕ → Option ℕ
-place_from i tag [] = None
-place_from i tag (other ∷ tags) = if other == tag then Some i else place_from (i + 1) tag tags
-
--- the column of a line: the place of its coroutine among those that have a column
-abbrev pub column_of : List ℕ → Said → Option ℕ
-column_of tags (Note tag) = place_from 0 tag tags
-column_of tags (Job row) = None
-column_of tags Element = None
 
 -- the line stands in the book of one of these coroutines
 abbrev pub is_of : List ℕ → Told → Bool

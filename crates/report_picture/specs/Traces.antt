@@ -13,9 +13,11 @@ use Rattle.report_picture.specs.declared.trace.Happening.{Happening}
 use Rattle.report_picture.specs.declared.trace.Happening.TheVariants.{Lasts, Leaves, Arrives}
 use Rattle.report_picture.specs.declared.trace.Event.{Event}
 use Rattle.report_picture.specs.declared.trace.Trace.{Trace}
-use Rattle.report_picture.specs.LineWords.{is_bookkeeping}
-use Rattle.report_picture.specs.Elements.{label_of}
-use Rattle.report_picture.specs.Json.{Json, value, quoted}
+use Rattle.picture_parts.specs.LineWords.{is_bookkeeping}
+use Rattle.picture_parts.specs.Members.{arguments_text, arriving_fields, field_text, fields_text, instant_fields, leaving_fields, naming_fields, quoted, slice_fields}
+use Rattle.picture_parts.specs.Names.{heading}
+use Rattle.report_picture.specs.Elements.{job_heading, label_of}
+use Rattle.report_picture.specs.Json.{Json, value}
 
 -- ---- which lines
 
@@ -35,46 +37,22 @@ Tells wanted lines trace = map (λ m. told m.line) trace.moments.items ≡ filte
 
 -- ---- an event as a text
 
--- a member of an object, with a comma behind it
-abbrev pub field_text : List ℕ → List ℕ → List ℕ
-field_text name v = quoted name ++ codes ":" ++ v ++ codes ","
-
-abbrev pub fields_text : List (List ℕ × List ℕ) → List ℕ
-fields_text [] = []
-fields_text (f ∷ fields) = field_text f.0 f.1 ++ fields_text fields
-
--- the last member of an event, which is an object of one member
-abbrev pub arguments_text : List ℕ → List ℕ → List ℕ
-arguments_text name words = codes "\"args\":{" ++ quoted name ++ codes ":" ++ quoted words ++ codes "}"
-
--- an event: its name, its category, its track, what happens, and its last member
-abbrev pub object_text : List ℕ → List ℕ → ℕ → List (List ℕ × List ℕ) → List ℕ → List ℕ → List ℕ
-object_text name category track fields argument words =
+-- an event: its name, its category, its track, what happens, and its last member, in which the line of a script may stand too
+abbrev pub object_text : List ℕ → List ℕ → ℕ → List (List ℕ × List ℕ) → List ℕ → List ℕ → List ℕ → List ℕ
+object_text name category track fields argument words source =
     codes "{" ++ field_text (codes "name") (quoted name) ++ field_text (codes "cat") (quoted category)
     ++ field_text (codes "pid") (decimal 1) ++ field_text (codes "tid") (decimal track) ++ fields_text fields
-    ++ arguments_text argument words ++ codes "}"
+    ++ arguments_text argument words source ++ codes "}"
 
 -- ---- what happens
 
--- a slice
-abbrev pub slice_fields : ℕ → ℕ → List (List ℕ × List ℕ)
-slice_fields from lasts =
-    (codes "ph", quoted (codes "X")) ∷ ((codes "ts", decimal from) ∷ ((codes "dur", decimal lasts) ∷ []))
-
--- an instant of a track
-abbrev pub instant_fields : ℕ → List (List ℕ × List ℕ)
-instant_fields at = (codes "ph", quoted (codes "i")) ∷ ((codes "s", quoted (codes "t")) ∷ ((codes "ts", decimal at) ∷ []))
-
 abbrev pub happening_fields : Happening → List (List ℕ × List ℕ)
 happening_fields (Lasts from lasts) = slice_fields from lasts
-happening_fields (Leaves at flow) =
-    (codes "ph", quoted (codes "s")) ∷ ((codes "id", decimal flow) ∷ ((codes "ts", decimal at) ∷ []))
-happening_fields (Arrives at flow) =
-    (codes "ph", quoted (codes "f")) ∷ ((codes "bp", quoted (codes "e")) ∷ ((codes "id", decimal flow)
-    ∷ ((codes "ts", decimal at) ∷ [])))
+happening_fields (Leaves at flow) = leaving_fields at flow
+happening_fields (Arrives at flow) = arriving_fields at flow
 
 abbrev pub event_text : Event → List ℕ
-event_text e = object_text e.name.now e.category.now e.track (happening_fields e.happening) (codes "line") e.line.now
+event_text e = object_text e.name.now e.category.now e.track (happening_fields e.happening) (codes "line") e.line.now e.source.now
 
 -- the track of a coroutine
 abbrev pub track_of : Said → ℕ
@@ -91,25 +69,21 @@ moment_fields false at = instant_fields at
 abbrev pub moment_text : Moment → List ℕ
 moment_text m =
     object_text (label_of m.line.text.now) (codes "line") (track_of m.line.said) (moment_fields m.joined m.at) (codes "line")
-    m.line.text.now
+    m.line.text.now m.source.now
 
 -- the name of a track
-abbrev pub track_name : Bool → ℕ → List ℕ
-track_name true row = codes "Job " ++ decimal row
-track_name false tag = codes "coroutine " ++ decimal tag
+abbrev pub track_name : List (List ℕ) → Bool → ℕ → List ℕ
+track_name names true row = job_heading row
+track_name names false tag = heading names tag
 
 abbrev pub track_number : Bool → ℕ → ℕ
 track_number true row = row * 2 + 1
 track_number false tag = tag * 2
 
--- what names a track
-abbrev pub naming_fields : List (List ℕ × List ℕ)
-naming_fields = (codes "ph", quoted (codes "M")) ∷ []
-
-abbrev pub track_text : Track → List ℕ
-track_text t =
+abbrev pub track_text : List (List ℕ) → Track → List ℕ
+track_text names t =
     object_text (codes "thread_name") (codes "") (track_number t.is_job t.number) naming_fields (codes "name")
-    (track_name t.is_job t.number)
+    (track_name names t.is_job t.number) []
 
 -- ---- the whole
 
@@ -120,12 +94,13 @@ elements_text (t ∷ texts) = t ++ codes ",\n" ++ elements_text texts
 
 -- the last event, which names the run
 abbrev pub last_text : List ℕ
-last_text = object_text (codes "process_name") (codes "") 0 naming_fields (codes "name") (codes "run")
+last_text = object_text (codes "process_name") (codes "") 0 naming_fields (codes "name") (codes "run") []
 
 -- a trace as a text: an object whose events are its tracks, its lines and what else happens
 abbrev pub trace_text : Trace → List ℕ
 trace_text trace =
-    codes "{\"displayTimeUnit\":\"ms\",\"traceEvents\":[\n" ++ elements_text (map track_text trace.tracks.items)
+    codes "{\"displayTimeUnit\":\"ms\",\"traceEvents\":[\n"
+    ++ elements_text (map (track_text (map (λ n. n.items) trace.names.now)) trace.tracks.items)
     ++ elements_text (map moment_text trace.moments.items) ++ elements_text (map event_text trace.events.items)
     ++ (last_text ++ codes "\n") ++ codes "]}\n"
 

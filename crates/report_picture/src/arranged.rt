@@ -6,7 +6,7 @@ ghost use Rattle.report_picture.specs.Order.{AreOrdered, StandBelow};
 ghost use Rattle.report_picture.specs.Pictures.{StandInColumns, StandInOrder, is_drawn, lines_in};
 
 use crate::causes::causes_of;
-use crate::columns::{Wanted, is_among};
+use crate::columns::Wanted;
 use crate::filled::filled;
 use crate::notes::Note;
 use crate::order::order_of;
@@ -16,6 +16,7 @@ use crate::presumed::sources_in;
 use crate::sources::{Sources, all_stand_below};
 use crate::tables::Tables;
 use co_base::Memory;
+use picture_parts::{Names, is_among};
 use report_reader::Line;
 use std::alloc::{AllocError, Global};
 
@@ -46,6 +47,8 @@ pub(crate) struct Books<'s, 'a> {
     pub(crate) tags: &'s [u32],
     /// Of each line of the books the other coroutine that it concerns.
     pub(crate) targets: &'s [Option<u32>],
+    /// What a script says.
+    pub(crate) names: Names<'a>,
 }
 
 impl Books<'_, '_> {
@@ -125,7 +128,14 @@ fn arranged_as_told<'a>(alloc: Global, books: Books<'_, 'a>) -> Result<Arranged<
         AreOrdered arranged.in_order books.entry.wanted books.entry.tags.now (told_lines books.entry.lines.now) arranged.drawn.items) }
 {
     let rows = told_rows(alloc, books)?;
-    let drawn = drawn_as_told(alloc, books.wanted, books.tags, books.lines, books.targets)?;
+    let drawn = drawn_as_told(
+        alloc,
+        books.wanted,
+        books.tags,
+        books.lines,
+        books.targets,
+        books.names,
+    )?;
     Ok(Arranged {
         rows,
         drawn,
@@ -150,6 +160,7 @@ pub(crate) fn arrange<'a>(alloc: Global, books: Books<'_, 'a>) -> Result<Arrange
         books.lines,
         rows.rows.as_slice(),
         books.targets,
+        books.names,
     )?;
     let allowed = is_allowed(alloc, books, &rows, drawn.as_slice())?;
     let all = rows.numbers.len() == books.notes.len();

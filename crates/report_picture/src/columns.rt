@@ -1,10 +1,11 @@
 //! Which coroutines have a column.
 
 ghost use Rattle.std.specs.Prelude.{◌≡◌, IfOk, OnOk};
-ghost use Rattle.report_picture.specs.Pictures.{all_have_columns, has_column, is_among, is_new, tags_of, with_tag};
+ghost use Rattle.report_picture.specs.Pictures.{all_have_columns, has_column, is_new, tags_of, with_tag};
 ghost use Rattle.report_reader.specs.declared.line.Said.TheVariants.{Note};
 ghost use Rattle.report_reader.specs.Reading.{told_lines};
 
+use picture_parts::is_among;
 use report_reader::{Line, Said};
 use std::alloc::{AllocError, Global};
 
@@ -23,20 +24,6 @@ pub struct Wanted {
 
 /// The most columns of a picture.
 const MOST_COLUMNS: usize = 64;
-
-/// Whether it is one of these.
-pub(crate) fn is_among(tag: u32, tags: &[u32]) -> bool
-    ensures { result ≡ is_among tag tags.now }
-{
-    let mut rest = tags;
-    while let [other, more @ ..] = rest {
-        if *other == tag {
-            return true;
-        }
-        rest = more;
-    }
-    false
-}
 
 /// Whether a tag is asked for, is not there, and fits.
 fn is_new(wanted: Wanted, tags: &[u32], tag: u32) -> bool

@@ -1,12 +1,14 @@
 //! A picture as a sequence diagram of Mermaid.
 
-ghost use Rattle.std.specs.Prelude.{◌≡◌, ◌++◌, IfOk, OnOk};
+ghost use Rattle.std.specs.Prelude.{◌≡◌, ◌++◌, IfOk, OnOk, map};
 ghost use lib.Chars.{codes};
 ghost use Rattle.std.specs.Fmt.{decimal};
 ghost use Rattle.std.specs.List.Sorted.{IsNonDecreasingBy, IsPermutation};
+ghost use Rattle.picture_parts.specs.Names.{heading};
 ghost use Rattle.report_picture.specs.Diagrams.{IsDiagramOf, column_text, columns_text, head_text, line_text, lines_text, tag_of};
 
 use crate::picture::{Column, Drawn, Picture};
+use picture_parts::heading;
 use std::alloc::{AllocError, Global};
 
 fn push_number(alloc: Global, out: &mut Vec<u8>, n: u32) -> Result<(), AllocError>
@@ -17,26 +19,49 @@ fn push_number(alloc: Global, out: &mut Vec<u8>, n: u32) -> Result<(), AllocErro
     Ok(())
 }
 
-fn push_column(alloc: Global, out: &mut Vec<u8>, column: &Column) -> Result<(), AllocError>
-    ensures { OnOk result (out.new.items ≡ out.old.items ++ column_text column.now) }
+fn push_heading(
+    alloc: Global,
+    out: &mut Vec<u8>,
+    names: &[Vec<u8>],
+    tag: u32,
+) -> Result<(), AllocError>
+    ensures { OnOk result (out.new.items ≡ out.old.items ++ heading (map (λ n. n.items) names.now) tag) }
+{
+    let text = heading(alloc, names, tag)?;
+    out.extend_from_slice(text.as_slice())?;
+    Ok(())
+}
+
+fn push_column(
+    alloc: Global,
+    out: &mut Vec<u8>,
+    names: &[Vec<u8>],
+    column: &Column,
+) -> Result<(), AllocError>
+    ensures { OnOk result (out.new.items ≡ out.old.items ++ column_text (map (λ n. n.items) names.now) column.now) }
 {
     let tag = column.tag;
     out.extend_from_slice(b"    participant c")?;
     push_number(alloc, out, tag)?;
-    out.extend_from_slice(b" as coroutine ")?;
-    push_number(alloc, out, tag)?;
+    out.extend_from_slice(b" as ")?;
+    push_heading(alloc, out, names, tag)?;
     out.extend_from_slice(b", Job ")?;
     push_number(alloc, out, tag)?;
     out.extend_from_slice(b"\n")?;
     Ok(())
 }
 
-fn push_columns(alloc: Global, out: &mut Vec<u8>, columns: &[Column]) -> Result<(), AllocError>
-    ensures { OnOk result (out.new.items ≡ out.old.items ++ columns_text columns.now) }
+fn push_columns(
+    alloc: Global,
+    out: &mut Vec<u8>,
+    names: &[Vec<u8>],
+    columns: &[Column],
+) -> Result<(), AllocError>
+    ensures { OnOk result (out.new.items ≡ out.old.items ++ columns_text (map (λ n. n.items) names.now) columns.now) }
 {
     let mut rest = columns;
     while let [column, more @ ..] = rest {
-        push_column(alloc, out, column)?;
+        push_column(alloc, out, names, column)?;
         rest = more;
     }
     Ok(())
@@ -117,11 +142,12 @@ fn downwards<'a>(alloc: Global, picture: &Picture<'a>) -> Result<Vec<Drawn<'a>>,
 /// The text of the columns of a picture and of these lines, in their order.
 fn diagram_text(alloc: Global, picture: &Picture, lines: &Vec<Drawn>) -> Result<Vec<u8>, AllocError>
     ensures { IfOk result (λ text. text.items
-        ≡ codes "sequenceDiagram\n" ++ columns_text picture.now.columns.items ++ lines_text picture.now.columns.items lines.now.items) }
+        ≡ codes "sequenceDiagram\n" ++ columns_text (map (λ n. n.items) picture.now.names.now) picture.now.columns.items
+        ++ lines_text picture.now.columns.items lines.now.items) }
 {
     let columns = picture.columns.as_slice();
     let mut out = Vec::from_slice(alloc, b"sequenceDiagram\n")?;
-    push_columns(alloc, &mut out, columns)?;
+    push_columns(alloc, &mut out, picture.names, columns)?;
     push_lines(alloc, &mut out, columns, lines.as_slice())?;
     Ok(out)
 }

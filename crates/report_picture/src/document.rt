@@ -3,79 +3,19 @@
 ghost use Rattle.std.specs.Prelude.{◌≡◌, ◌++◌, ◌+◌, [], map, IfOk, OnOk};
 ghost use Rattle.std.specs.Fmt.{decimal};
 ghost use lib.Chars.{codes};
-ghost use Rattle.report_picture.specs.Elements.{attribute_text, attributes_text, box_node, coroutine_node, document_attributes, escape, escaped, fate_label, fate_node, fate_nodes, fate_nodes_of, head_node, head_nodes, job_node, left_of, line_node, mark_node, node_text, nodes_text, path_node, rest_text, style, style_node, svg_text, text_node, title_text, way_text};
+ghost use Rattle.picture_parts.specs.Names.{heading, with_source};
+ghost use Rattle.report_picture.specs.Elements.{attributes_text, box_node, coroutine_node, document_attributes, fate_node, fate_nodes, fate_nodes_of, head_node, head_nodes, job_heading, job_node, left_of, line_node, mark_node, node_text, nodes_text, path_node, style, style_node, svg_text, text_node, title_of, way_text};
 ghost use Rattle.report_picture.specs.WellFormed.{IsDocument};
 
 use crate::layout::{label_of, row_y};
-use crate::line_words::word;
 use crate::looks::Look;
-use crate::picture::{Column, Drawn, Lost, Mark, Picture, Spot, Way};
+use crate::picture::{Column, Drawn, Lost, Mark, Picture, Spot, Title, Way};
+use picture_parts::{
+    fate_label, heading, push_attribute, push_number, push_rest, push_step, with_source,
+};
 use std::alloc::{AllocError, Global};
 
-// ---- texts
-
-fn push_escape(out: &mut Vec<u8>, byte: u8) -> Result<(), AllocError>
-    ensures { OnOk result (out.new.items ≡ out.old.items ++ escape byte) }
-{
-    match byte {
-        b'<' => {
-            out.extend_from_slice(b"&lt;")?;
-            Ok(())
-        }
-        b'>' => {
-            out.extend_from_slice(b"&gt;")?;
-            Ok(())
-        }
-        b'&' => {
-            out.extend_from_slice(b"&amp;")?;
-            Ok(())
-        }
-        b'"' => {
-            out.extend_from_slice(b"&quot;")?;
-            Ok(())
-        }
-        _ => {
-            out.push(byte)?;
-            Ok(())
-        }
-    }
-}
-
-fn push_escaped(out: &mut Vec<u8>, text: &[u8]) -> Result<(), AllocError>
-    ensures { OnOk result (out.new.items ≡ out.old.items ++ escaped text.now) }
-{
-    let mut rest = text;
-    while let [byte, more @ ..] = rest {
-        push_escape(out, *byte)?;
-        rest = more;
-    }
-    Ok(())
-}
-
-fn number(alloc: Global, n: u64) -> Result<Vec<u8>, AllocError>
-    ensures { IfOk result (λ text. text.items ≡ decimal n) }
-{
-    let text = format!(in alloc; "{n}")?;
-    Ok(text.into_bytes())
-}
-
-/// Adds a number in decimal.
-pub(crate) fn push_decimal(alloc: Global, out: &mut Vec<u8>, n: u64) -> Result<(), AllocError>
-    ensures { OnOk result (out.new.items ≡ out.old.items ++ decimal n) }
-{
-    let text = number(alloc, n)?;
-    out.extend_from_slice(text.as_slice())?;
-    Ok(())
-}
-
-/// Adds a letter and a number.
-fn push_step(alloc: Global, out: &mut Vec<u8>, letter: &[u8], n: u64) -> Result<(), AllocError>
-    ensures { OnOk result (out.new.items ≡ out.old.items ++ letter.now ++ decimal n) }
-{
-    out.extend_from_slice(letter)?;
-    push_decimal(alloc, out, n)?;
-    Ok(())
-}
+// ---- paths
 
 /// Adds a move to a point.
 fn push_move(alloc: Global, out: &mut Vec<u8>, x: u64, y: u64) -> Result<(), AllocError>
@@ -140,47 +80,12 @@ fn way_text(alloc: Global, way: Way) -> Result<Vec<u8>, AllocError>
 
 // ---- elements
 
-fn push_attribute(out: &mut Vec<u8>, name: &[u8], value: &[u8]) -> Result<(), AllocError>
-    ensures { OnOk result (out.new.items ≡ out.old.items ++ attribute_text name.now value.now) }
+/// What a reader is shown that points at a mark.
+fn title_of(alloc: Global, title: Title) -> Result<Vec<u8>, AllocError>
+    ensures { IfOk result (λ text. text.items ≡ title_of title.entry) }
 {
-    out.extend_from_slice(b" ")?;
-    out.extend_from_slice(name)?;
-    out.extend_from_slice(b"=\"")?;
-    push_escaped(out, value)?;
-    out.extend_from_slice(b"\"")?;
-    Ok(())
-}
-
-fn push_number(alloc: Global, out: &mut Vec<u8>, name: &[u8], n: u64) -> Result<(), AllocError>
-    ensures { OnOk result (out.new.items ≡ out.old.items ++ attribute_text name.now (decimal n)) }
-{
-    let value = number(alloc, n)?;
-    push_attribute(out, name, value.as_slice())?;
-    Ok(())
-}
-
-fn push_title(out: &mut Vec<u8>, title: &[u8]) -> Result<(), AllocError>
-    ensures { OnOk result (out.new.items ≡ out.old.items ++ title_text title.now) }
-{
-    if let [_, ..] = title {
-        out.extend_from_slice(b"<title>")?;
-        push_escaped(out, title)?;
-        out.extend_from_slice(b"</title>")?;
-    }
-    Ok(())
-}
-
-/// The end of an element behind its attributes.
-fn push_rest(out: &mut Vec<u8>, name: &[u8], title: &[u8], text: &[u8]) -> Result<(), AllocError>
-    ensures { OnOk result (out.new.items ≡ out.old.items ++ rest_text name.now title.now text.now) }
-{
-    out.extend_from_slice(b">")?;
-    push_title(out, title)?;
-    push_escaped(out, text)?;
-    out.extend_from_slice(b"</")?;
-    out.extend_from_slice(name)?;
-    out.extend_from_slice(b">\n")?;
-    Ok(())
+    let text = with_source(alloc, title.line, title.source)?;
+    Ok(text)
 }
 
 fn push_box(
@@ -189,17 +94,19 @@ fn push_box(
     place: (u64, u64),
     size: (u64, u64),
     look: Look,
-    title: &[u8],
+    title: Title,
 ) -> Result<(), AllocError>
-    ensures { OnOk result (out.new.items ≡ out.old.items ++ node_text (box_node place.0 place.1 size.0 size.1 look title.now)) }
+    ensures { OnOk result (out.new.items
+        ≡ out.old.items ++ node_text (box_node place.0 place.1 size.0 size.1 look (title_of title.entry))) }
 {
+    let shown = title_of(alloc, title)?;
     out.extend_from_slice(b"<rect")?;
     push_number(alloc, out, b"x", place.0)?;
     push_number(alloc, out, b"y", place.1)?;
     push_number(alloc, out, b"width", size.0)?;
     push_number(alloc, out, b"height", size.1)?;
     push_attribute(out, b"class", look.word())?;
-    push_rest(out, b"rect", title, b"")?;
+    push_rest(out, b"rect", shown.as_slice(), b"")?;
     Ok(())
 }
 
@@ -208,15 +115,16 @@ fn push_path(
     out: &mut Vec<u8>,
     way: Way,
     look: Look,
-    title: &[u8],
+    title: Title,
 ) -> Result<(), AllocError>
-    ensures { OnOk result (out.new.items ≡ out.old.items ++ node_text (path_node way look title.now)) }
+    ensures { OnOk result (out.new.items ≡ out.old.items ++ node_text (path_node way look (title_of title.entry))) }
 {
     let data = way_text(alloc, way)?;
+    let shown = title_of(alloc, title)?;
     out.extend_from_slice(b"<path")?;
     push_attribute(out, b"d", data.as_slice())?;
     push_attribute(out, b"class", look.word())?;
-    push_rest(out, b"path", title, b"")?;
+    push_rest(out, b"path", shown.as_slice(), b"")?;
     Ok(())
 }
 
@@ -264,7 +172,15 @@ fn push_mark(alloc: Global, out: &mut Vec<u8>, mark: &Mark) -> Result<(), AllocE
             text,
             title,
         } => {
-            push_text(alloc, out, (*x, *y), look.word(), text.as_slice(), *title)?;
+            let shown = title_of(alloc, *title)?;
+            push_text(
+                alloc,
+                out,
+                (*x, *y),
+                look.word(),
+                text.as_slice(),
+                shown.as_slice(),
+            )?;
             Ok(())
         }
     }
@@ -303,7 +219,15 @@ fn push_line(
     let x = left_of(picture.columns.as_slice(), drawn.column);
     let y = row_y(picture.top, drawn.row.saturating_sub(picture.first)) + 4;
     let text = drawn.line.text;
-    push_text(alloc, out, (x, y), b"line", label_of(text), text)
+    let shown = with_source(alloc, text, drawn.source)?;
+    push_text(
+        alloc,
+        out,
+        (x, y),
+        b"line",
+        label_of(text),
+        shown.as_slice(),
+    )
 }
 
 fn push_lines(
@@ -323,20 +247,6 @@ fn push_lines(
 }
 
 // ---- fates
-
-/// An element that was not received: its channel, its place, its value and its fate, by the line that tells it.
-fn fate_label(alloc: Global, line: &[u8]) -> Result<Vec<u8>, AllocError>
-    ensures { IfOk result (λ text. text.items ≡ fate_label line.now) }
-{
-    let mut text = Vec::from_slice(alloc, word(1, line))?;
-    text.extend_from_slice(b".")?;
-    text.extend_from_slice(word(2, line))?;
-    text.extend_from_slice(b": ")?;
-    text.extend_from_slice(word(3, line))?;
-    text.extend_from_slice(b" ")?;
-    text.extend_from_slice(word(4, line))?;
-    Ok(text)
-}
 
 fn push_fate_at(alloc: Global, out: &mut Vec<u8>, spot: Spot, line: &[u8]) -> Result<(), AllocError>
     ensures { OnOk result (out.new.items ≡ out.old.items ++ node_text (fate_node spot line.now)) }
@@ -375,36 +285,43 @@ fn push_fates(alloc: Global, out: &mut Vec<u8>, lost: &[Lost]) -> Result<(), All
 
 // ---- columns
 
-/// Words, and a number behind them.
-fn numbered(alloc: Global, words: &[u8], n: u32) -> Result<Vec<u8>, AllocError>
-    ensures { IfOk result (λ text. text.items ≡ words.now ++ decimal n) }
-{
-    let mut text = Vec::new(alloc);
-    push_step(alloc, &mut text, words, u64::from(n))?;
-    Ok(text)
-}
-
-/// A line of the head of a column: words, and its number.
+/// A line of the head of a column.
 fn push_head_line(
     alloc: Global,
     out: &mut Vec<u8>,
     place: (u64, u64),
-    words: &[u8],
-    n: u32,
+    text: &[u8],
 ) -> Result<(), AllocError>
-    ensures { OnOk result (out.new.items ≡ out.old.items ++ node_text (head_node place.0 place.1 (words.now ++ decimal n))) }
+    ensures { OnOk result (out.new.items ≡ out.old.items ++ node_text (head_node place.0 place.1 text.now)) }
 {
-    let text = numbered(alloc, words, n)?;
-    push_text(alloc, out, place, b"head", text.as_slice(), b"")?;
+    push_text(alloc, out, place, b"head", text, b"")?;
     Ok(())
 }
 
-fn push_head(alloc: Global, out: &mut Vec<u8>, top: u32, column: Column) -> Result<(), AllocError>
-    ensures { OnOk result (out.new.items ≡ out.old.items ++ node_text (coroutine_node top column) ++ node_text (job_node top column)) }
+/// The Job of a row, as `Job 3`.
+pub(crate) fn job_heading(alloc: Global, row: u32) -> Result<Vec<u8>, AllocError>
+    ensures { IfOk result (λ text. text.items ≡ job_heading row) }
+{
+    let mut text = Vec::new(alloc);
+    push_step(alloc, &mut text, b"Job ", u64::from(row))?;
+    Ok(text)
+}
+
+fn push_head(
+    alloc: Global,
+    out: &mut Vec<u8>,
+    names: &[Vec<u8>],
+    top: u32,
+    column: Column,
+) -> Result<(), AllocError>
+    ensures { OnOk result (out.new.items
+        ≡ out.old.items ++ node_text (coroutine_node (map (λ n. n.items) names.now) top column) ++ node_text (job_node top column)) }
 {
     let y = u64::from(top);
-    push_head_line(alloc, out, (column.left, y), b"coroutine ", column.tag)?;
-    push_head_line(alloc, out, (column.left, y + 16), b"Job ", column.tag)?;
+    let coroutine = heading(alloc, names, column.tag)?;
+    let job = job_heading(alloc, column.tag)?;
+    push_head_line(alloc, out, (column.left, y), coroutine.as_slice())?;
+    push_head_line(alloc, out, (column.left, y + 16), job.as_slice())?;
     Ok(())
 }
 
@@ -412,14 +329,15 @@ fn push_head(alloc: Global, out: &mut Vec<u8>, top: u32, column: Column) -> Resu
 fn push_heads(
     alloc: Global,
     out: &mut Vec<u8>,
+    names: &[Vec<u8>],
     top: u32,
     columns: &[Column],
 ) -> Result<(), AllocError>
-    ensures { OnOk result (out.new.items ≡ out.old.items ++ nodes_text (head_nodes top columns.now)) }
+    ensures { OnOk result (out.new.items ≡ out.old.items ++ nodes_text (head_nodes (map (λ n. n.items) names.now) top columns.now)) }
 {
     let mut rest = columns;
     while let [column, more @ ..] = rest {
-        push_head(alloc, out, top, *column)?;
+        push_head(alloc, out, names, top, *column)?;
         rest = more;
     }
     Ok(())
@@ -475,7 +393,13 @@ fn svg_text(alloc: Global, picture: &Picture) -> Result<Vec<u8>, AllocError>
     push_style(&mut out)?;
     push_marks(alloc, &mut out, picture.marks.as_slice())?;
     push_fates(alloc, &mut out, picture.lost.as_slice())?;
-    push_heads(alloc, &mut out, picture.top, picture.columns.as_slice())?;
+    push_heads(
+        alloc,
+        &mut out,
+        picture.names,
+        picture.top,
+        picture.columns.as_slice(),
+    )?;
     push_lines(alloc, &mut out, picture, picture.lines.as_slice())?;
     out.extend_from_slice(b"</svg>\n")?;
     Ok(out)

@@ -15,7 +15,7 @@ use crate::lanes::{Laid, lanes_of, push_ways};
 use crate::layout::{BAR, columns_of, label_of, row_y, total_width};
 use crate::lives::{push_lives, push_waits};
 use crate::looks::Look;
-use crate::marks::push_box;
+use crate::marks::{push_box, untitled};
 use crate::notes::{Note, notes_in};
 use crate::picture::{Column, Drawn, Lost, Mark, Picture};
 use crate::placed::part_of;
@@ -23,6 +23,7 @@ use crate::sheet::Sheet;
 use crate::tables::{Tables, tables_of};
 use crate::targets::targets_of;
 use co_base::Memory;
+use picture_parts::{Names, heading};
 use report_reader::{Line, Said};
 use std::alloc::{AllocError, Global};
 
@@ -72,6 +73,10 @@ fn widths_of<'a>(
     lines: &[Line<'a>],
 ) -> Result<Vec<usize>, AllocError> {
     let mut widths = filled(alloc, 14usize, sheet.books.tags.len())?;
+    for (column, tag) in sheet.books.tags.iter().enumerate() {
+        let head = heading(alloc, sheet.books.names.blocks, *tag)?;
+        widen(&mut widths, column, head.len());
+    }
     for d in drawn {
         widen(&mut widths, d.column, label_of(d.line.text).len());
     }
@@ -118,7 +123,7 @@ fn push_ticks<'a>(
         if let Some(column) = sheet.columns.get(d.column) {
             let row = d.row.saturating_sub(sheet.first);
             let place = (column.left, row_y(sheet.top, row).saturating_sub(1));
-            push_box(marks, place, (BAR, 2), Look::Tick, b"")?;
+            push_box(marks, place, (BAR, 2), Look::Tick, untitled())?;
         }
     }
     Ok(())
@@ -144,7 +149,7 @@ fn push_marks<'a>(
     sheet: &Sheet<'_, 'a>,
     layers: Layers<'_, 'a>,
 ) -> Result<(), AllocError> {
-    push_box(marks, (0, 0), size, Look::Paper, b"")?;
+    push_box(marks, (0, 0), size, Look::Paper, untitled())?;
     push_legend(alloc, marks, layers.channels)?;
     push_lives(alloc, marks, sheet, layers.order)?;
     push_waits(marks, sheet)?;
@@ -166,9 +171,15 @@ fn marks_of<'a>(
 }
 
 /// The picture of a report: a column for each coroutine asked for that has a line in its book, the first 64 of them. The lines are in an
-/// order that both histories allow, if one was found.
-pub fn draw<'a>(alloc: Global, wanted: Wanted, lines: &[Line<'a>]) -> Result<Drawing<'a>, Memory>
+/// order that both histories allow, if one was found. The names are those of a script that the report is one of.
+pub fn draw<'a>(
+    alloc: Global,
+    wanted: Wanted,
+    names: Names<'a>,
+    lines: &[Line<'a>],
+) -> Result<Drawing<'a>, Memory>
     ensures shown { IfOk result (λ drawing. Shows drawing.in_order wanted (told_lines lines.now) drawing.picture) }
+    ensures names { IfOk result (λ drawing. drawing.picture.names.now ≡ names.entry.blocks.now) }
     ensures all { IfOk result (λ drawing.
         drawing.all ≡ all_have_columns wanted (tags_of wanted (told_lines lines.now)) (told_lines lines.now)) }
 {
@@ -181,6 +192,7 @@ pub fn draw<'a>(alloc: Global, wanted: Wanted, lines: &[Line<'a>]) -> Result<Dra
         wanted,
         tags: tags.as_slice(),
         targets: told.targets.as_slice(),
+        names,
     };
     draw_books(alloc, books)
 }
@@ -190,6 +202,7 @@ fn draw_books<'a>(alloc: Global, books: Books<'_, 'a>) -> Result<Drawing<'a>, Me
     requires tags { books.tags.now ≡ tags_of books.wanted (told_lines books.lines.now) }
     ensures shown { IfOk result (λ drawing.
         Shows drawing.in_order books.entry.wanted (told_lines books.entry.lines.now) drawing.picture) }
+    ensures names { IfOk result (λ drawing. drawing.picture.names.now ≡ books.entry.names.blocks.now) }
     ensures all { IfOk result (λ drawing.
         drawing.all ≡ all_have_columns books.entry.wanted books.entry.tags.now (told_lines books.entry.lines.now)) }
 {
@@ -235,6 +248,7 @@ fn picture_of<'a>(
     rows: &Rows,
     drawn: &[Drawn<'a>],
 ) -> Result<Picture<'a>, Memory>
+    ensures names { IfOk result (λ picture. picture.names.now ≡ books.entry.names.blocks.now) }
     ensures tags { IfOk result (λ picture. map (λ c. c.tag) picture.columns.items ≡ books.entry.tags.now) }
     ensures beside { IfOk result (λ picture. StandBeside 0 picture.columns.items) }
     ensures part { IfOk result (λ picture. picture.lines.items ≡ filter (is_within books.entry.wanted) drawn.now) }
@@ -267,6 +281,7 @@ fn picture_of<'a>(
         height,
         top: plan.top,
         first: plan.first,
+        names: books.names.blocks,
         columns,
         marks,
         lost,

@@ -6,11 +6,11 @@ ghost use Rattle.report_picture.specs.Pictures.{is_element};
 
 use crate::arrows::settled_at;
 use crate::layout::{INDENT, label_of, text_width};
-use crate::line_words::word;
 use crate::looks::Look;
-use crate::marks::push_path;
+use crate::marks::{push_path, shown};
 use crate::picture::{Lost, Mark, Spot, Way};
 use crate::sheet::Sheet;
+use picture_parts::word;
 use report_reader::{Line, Said};
 use std::alloc::{AllocError, Global};
 
@@ -96,7 +96,7 @@ pub(crate) fn push_crosses<'a>(
                 x: spot.x.saturating_sub(8),
                 y: spot.y.saturating_sub(4),
             };
-            push_path(marks, way, Look::Lost, one.line.text)?;
+            push_path(marks, way, Look::Lost, shown(one.line.text))?;
         }
     }
     Ok(())

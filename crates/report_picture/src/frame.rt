@@ -4,7 +4,7 @@ use crate::arrows::shade_of;
 use crate::layout::BAR;
 use crate::lives::hangs;
 use crate::looks::{Look, State};
-use crate::marks::{push_box, push_path, push_text};
+use crate::marks::{push_box, push_path, push_text, shown, untitled};
 use crate::picture::{Mark, Way};
 use crate::sheet::Sheet;
 use report_reader::{Line, Said, cut_at};
@@ -89,7 +89,7 @@ fn push_entry<'a>(
         (x.saturating_add(BAR + 8), y),
         Look::Label,
         text,
-        b"",
+        untitled(),
     )
 }
 
@@ -103,15 +103,21 @@ fn push_sample<'a>(
     let center = x.saturating_add(BAR / 2);
     let top = y.saturating_sub(12);
     match look {
-        Look::Life(_) => push_box(marks, (x, top), (BAR, 16), look, b""),
-        Look::Past => push_box(marks, (center.saturating_sub(1), top), (2, 16), look, b""),
+        Look::Life(_) => push_box(marks, (x, top), (BAR, 16), look, untitled()),
+        Look::Past => push_box(
+            marks,
+            (center.saturating_sub(1), top),
+            (2, 16),
+            look,
+            untitled(),
+        ),
         Look::Brings(_) | Look::Cancels | Look::Joins => push_sample_way(marks, x, middle, look),
         Look::Lost => {
             let way = Way::Cross {
                 x: center,
                 y: middle,
             };
-            push_path(marks, way, look, b"")
+            push_path(marks, way, look, untitled())
         }
         _ => {
             let way = Way::Down {
@@ -119,7 +125,7 @@ fn push_sample<'a>(
                 from: top,
                 to: y.saturating_add(4),
             };
-            push_path(marks, way, look, b"")
+            push_path(marks, way, look, untitled())
         }
     }
 }
@@ -138,7 +144,7 @@ fn push_sample_way<'a>(
         to_y: y,
         to_x: x.saturating_add(BAR + 2),
     };
-    push_path(marks, way, look, b"")
+    push_path(marks, way, look, untitled())
 }
 
 /// What is said of a Job behind its row.
@@ -175,11 +181,11 @@ fn push_foot<'a>(
             let hangs = hangs(sheet, row);
             let look = if hangs { Look::Hangs } else { Look::Foot };
             let text = foot_of(alloc, line, hangs)?;
-            push_text(marks, (left, feet_y(sheet)), look, text, line)
+            push_text(marks, (left, feet_y(sheet)), look, text, shown(line))
         }
         None => {
             let said = Vec::from_slice(alloc, line)?;
-            push_text(marks, (36, y), Look::Label, said, line)
+            push_text(marks, (36, y), Look::Label, said, shown(line))
         }
     }
 }

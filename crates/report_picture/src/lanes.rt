@@ -178,7 +178,7 @@ fn push_way<'a>(
         to_y: sheet.y(one.arrow.to),
         to_x: left.saturating_sub(1),
     };
-    push_path(marks, way, one.arrow.look, sheet.text_at(one.arrow.from))
+    push_path(marks, way, one.arrow.look, sheet.title_at(one.arrow.from))
 }
 
 /// The arrows.

@@ -5,7 +5,6 @@
 //! - `picture`: a picture, its columns, its lines and its marks.
 //! - `looks`: how marks look.
 //! - `columns`: what is asked for, and which coroutines have a column.
-//! - `line_words`: the words of a line, and which lines are bookkeeping of Jobs.
 //! - `placed`: the lines, each in its row.
 //! - `drawing`: the picture of a report.
 //!
@@ -56,7 +55,6 @@ mod filled;
 mod frame;
 mod lanes;
 mod layout;
-mod line_words;
 mod lives;
 mod looks;
 mod marks;
@@ -77,6 +75,6 @@ pub use document::svg;
 pub use drawing::{Drawing, draw};
 pub use events::trace_text;
 pub use looks::{Look, Shade, State};
-pub use picture::{Column, Drawn, Lost, Mark, Picture, Spot, Way};
+pub use picture::{Column, Drawn, Lost, Mark, Picture, Spot, Title, Way};
 pub use sources::{Place, Sources};
 pub use trace::{Event, Happening, Moment, Trace, Tracing, Track, trace_of};

@@ -134,7 +134,7 @@ fn push_stretch<'a>(
         place,
         size,
         Look::Life(life.state),
-        sheet.text_at(life.since),
+        sheet.title_at(life.since),
     )
 }
 
@@ -204,7 +204,7 @@ fn push_end<'a>(
 ) -> Result<(), AllocError> {
     let from = sheet.y(life.since);
     let until = sheet.y(last).saturating_add(HALF).min(sheet.bottom());
-    let title = sheet.text_at(life.since);
+    let title = sheet.title_at(life.since);
     let left = sheet.left_of(column);
     if until > from {
         let size = (2, until - from);
@@ -254,7 +254,7 @@ fn push_thin<'a>(
     }
     let left = sheet.left_of(one.column);
     let height = until - from;
-    let title = sheet.text_at(one.life.since);
+    let title = sheet.title_at(one.life.since);
     let place = (left.saturating_add(2), from);
     push_box(marks, place, (6, height), Look::Paper, title)?;
     let place = (left.saturating_add(3), from);
@@ -324,7 +324,12 @@ fn push_wait<'a>(
         return Ok(());
     }
     let x = left.saturating_add(BAR / 2);
-    push_path(marks, Way::Down { x, from, to }, Look::Wait, note.text)
+    push_path(
+        marks,
+        Way::Down { x, from, to },
+        Look::Wait,
+        sheet.title_at(number),
+    )
 }
 
 /// The waits, each from the line that began it to its settle.

@@ -24,6 +24,16 @@ pub struct Drawn<'a> {
     /// The other coroutine that the line concerns, if that has a column.
     pub target: Option<u32>,
     pub line: Line<'a>,
+    /// The line of the script that it comes from; empty where that is not known.
+    pub source: &'a [u8],
+}
+
+/// What a reader is shown that points at a mark: a line of the report, and the line of the script that it comes from. Both are empty
+/// where nothing is shown, and the second where it is not known.
+#[derive(Clone, Copy)]
+pub struct Title<'a> {
+    pub line: &'a [u8],
+    pub source: &'a [u8],
 }
 
 /// A way through the picture.
@@ -66,7 +76,7 @@ pub struct Lost<'a> {
     pub line: Line<'a>,
 }
 
-/// A mark. Its title is a line of the report, which a reader is shown that points at the mark.
+/// A mark.
 #[derive(Drop)]
 pub enum Mark<'a> {
     Box {
@@ -75,19 +85,19 @@ pub enum Mark<'a> {
         width: u64,
         height: u64,
         look: Look,
-        title: &'a [u8],
+        title: Title<'a>,
     },
     Path {
         way: Way,
         look: Look,
-        title: &'a [u8],
+        title: Title<'a>,
     },
     Text {
         x: u64,
         y: u64,
         look: Look,
         text: Vec<u8>,
-        title: &'a [u8],
+        title: Title<'a>,
     },
 }
 
@@ -100,6 +110,8 @@ pub struct Picture<'a> {
     pub top: u32,
     /// The row that is drawn first.
     pub first: u32,
+    /// Of each coroutine, in the order of the tags, the name of its block, if there is a script.
+    pub names: &'a [Vec<u8>],
     pub columns: Vec<Column>,
     /// What is drawn before the lines, and below them.
     pub marks: Vec<Mark<'a>>,

@@ -4,40 +4,14 @@ ghost use Rattle.std.specs.Prelude.{◌≡◌, IfOk, IfSome, ◌&&◌, not, OnOk
 ghost use Rattle.std.specs.Option.{option_copied};
 ghost use Rattle.report_reader.specs.Reading.{told, told_lines};
 ghost use Rattle.report_picture.specs.Order.{StandFrom};
-ghost use Rattle.report_picture.specs.Pictures.{EndsAbove, StandInColumns, StandInOrder, column_of, is_drawn, is_left_out, is_of, is_target, is_within, lines_in, place_from};
+ghost use Rattle.report_picture.specs.Pictures.{EndsAbove, StandInColumns, StandInOrder, is_drawn, is_left_out, is_of, is_target, is_within, lines_in};
 
-use crate::columns::{Wanted, is_among};
-use crate::line_words::is_bookkeeping;
+use crate::columns::Wanted;
 use crate::picture::Drawn;
 use co_base::Memory;
+use picture_parts::{Names, column_of, is_among, is_bookkeeping, row_behind};
 use report_reader::{Line, Said};
 use std::alloc::{AllocError, Global};
-
-/// The place of a tag among these.
-fn place_of(tag: u32, tags: &[u32]) -> Option<usize>
-    ensures { result ≡ place_from 0 tag tags.now }
-{
-    let mut rest = tags;
-    let mut i = 0usize;
-    while let [other, more @ ..] = rest {
-        if *other == tag {
-            return Some(i);
-        }
-        i += 1;
-        rest = more;
-    }
-    None
-}
-
-/// The column of a line that stands in the book of one of these coroutines.
-pub(crate) fn column_of(said: Said, tags: &[u32]) -> Option<usize>
-    ensures { result ≡ column_of tags.now said }
-{
-    match said {
-        Said::Note(tag) => place_of(tag, tags),
-        Said::Job(_) | Said::Element => None,
-    }
-}
 
 /// Whether a line is left out.
 fn is_left_out(wanted: Wanted, line: &[u8]) -> bool
@@ -57,22 +31,6 @@ pub(crate) fn is_drawn(wanted: Wanted, tags: &[u32], line: Line) -> bool
     ensures { result ≡ is_drawn wanted tags.now (told line.entry) }
 {
     !is_left_out(wanted, line.text) && is_of(tags, line)
-}
-
-/// This row, or the next below this other, if that has the same column and is not above it.
-fn row_behind(other: usize, last: u32, column: usize, row: u32) -> Result<u32, Memory>
-    ensures { IfOk result (λ row. other ≡ column → last < row) }
-{
-    if other != column {
-        return Ok(row);
-    }
-    if last < row {
-        return Ok(row);
-    }
-    match last.checked_add(1) {
-        Some(next) => Ok(next),
-        None => Err(Memory),
-    }
 }
 
 /// This row, or the next below a line, if that stands in the same column and not above it.
@@ -103,11 +61,11 @@ fn among(tags: &[u32], target: Option<u32>) -> Option<u32>
     }
 }
 
-/// Where a line is to stand, and the other coroutine that it concerns.
+/// The other coroutine that a line concerns, and the line of the script that it comes from.
 #[derive(Clone, Copy)]
-struct Place {
-    row: u32,
+struct About<'a> {
     target: Option<u32>,
+    source: &'a [u8],
 }
 
 /// Adds a line, if it is drawn.
@@ -116,7 +74,8 @@ fn push_drawn<'a>(
     drawn: &mut Vec<Drawn<'a>>,
     wanted: Wanted,
     tags: &[u32],
-    place: Place,
+    row: u32,
+    about: About<'a>,
     line: Line<'a>,
 ) -> Result<(), Memory>
     requires order { StandInOrder drawn.old.items }
@@ -132,13 +91,14 @@ fn push_drawn<'a>(
     let Some(column) = column_of(line.said, tags) else {
         return Ok(());
     };
-    let row = row_below(drawn.as_slice(), column, place.row)?;
-    let target = among(tags, place.target);
+    let row = row_below(drawn.as_slice(), column, row)?;
+    let target = among(tags, about.target);
     drawn.push(Drawn {
         column,
         row,
         target,
         line,
+        source: about.source,
     })?;
     Ok(())
 }
@@ -152,6 +112,7 @@ pub(crate) fn drawn_in<'a>(
     lines: &[Line<'a>],
     rows: &[u32],
     targets: &[Option<u32>],
+    names: Names<'a>,
 ) -> Result<Vec<Drawn<'a>>, Memory>
     ensures once { IfOk result (λ drawn. lines_in drawn.items ≡ filter (is_drawn wanted tags.now) (told_lines lines.now)) }
     ensures columns { IfOk result (λ drawn. StandInColumns tags.now drawn.items) }
@@ -161,11 +122,11 @@ pub(crate) fn drawn_in<'a>(
     let mut rest = lines;
     let mut i = 0usize;
     while let [line, more @ ..] = rest {
-        let place = Place {
-            row: row_at(rows, i),
+        let about = About {
             target: target_at(targets, i),
+            source: names.source_at(i),
         };
-        push_drawn(&mut drawn, wanted, tags, place, *line)?;
+        push_drawn(&mut drawn, wanted, tags, row_at(rows, i), about, *line)?;
         i = i.saturating_add(1);
         rest = more;
     }
@@ -192,7 +153,7 @@ fn push_next<'a>(
     drawn: &mut Vec<Drawn<'a>>,
     wanted: Wanted,
     tags: &[u32],
-    target: Option<u32>,
+    about: About<'a>,
     line: Line<'a>,
 ) -> Result<(), Memory>
     requires rows { StandFrom 0 drawn.old.items }
@@ -211,12 +172,13 @@ fn push_next<'a>(
     let Ok(row) = u32::try_from(drawn.len()) else {
         return Err(Memory);
     };
-    let target = among(tags, target);
+    let target = among(tags, about.target);
     drawn.push(Drawn {
         column,
         row,
         target,
         line,
+        source: about.source,
     })?;
     Ok(())
 }
@@ -229,6 +191,7 @@ pub(crate) fn drawn_as_told<'a>(
     tags: &[u32],
     lines: &[Line<'a>],
     targets: &[Option<u32>],
+    names: Names<'a>,
 ) -> Result<Vec<Drawn<'a>>, Memory>
     ensures once { IfOk result (λ drawn. lines_in drawn.items ≡ filter (is_drawn wanted tags.now) (told_lines lines.now)) }
     ensures columns { IfOk result (λ drawn. StandInColumns tags.now drawn.items) }
@@ -239,7 +202,11 @@ pub(crate) fn drawn_as_told<'a>(
     let mut rest = lines;
     let mut i = 0usize;
     while let [line, more @ ..] = rest {
-        push_next(&mut drawn, wanted, tags, target_at(targets, i), *line)?;
+        let about = About {
+            target: target_at(targets, i),
+            source: names.source_at(i),
+        };
+        push_next(&mut drawn, wanted, tags, about, *line)?;
         i = i.saturating_add(1);
         rest = more;
     }

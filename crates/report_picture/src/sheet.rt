@@ -3,7 +3,7 @@
 use crate::arranged::Books;
 use crate::layout::{HALF, row_y};
 use crate::notes::Note;
-use crate::picture::Column;
+use crate::picture::{Column, Title};
 
 /// The lines of the books, what they say, and where they are drawn.
 #[derive(Clone, Copy)]
@@ -66,6 +66,14 @@ impl<'s, 'a> Sheet<'s, 'a> {
         match self.books.notes.get(number) {
             Some(note) => note.text,
             None => b"",
+        }
+    }
+
+    /// What a reader is shown of a line.
+    pub(crate) fn title_at(&self, number: usize) -> Title<'a> {
+        Title {
+            line: self.text_at(number),
+            source: self.books.names.source_at(number),
         }
     }
 

@@ -5,9 +5,9 @@ ghost use Rattle.report_reader.specs.Reading.{told, told_lines};
 ghost use Rattle.report_picture.specs.Order.{above_row, agree, agree_on_place, all_stand_below, attaches, brings, cancels, is_cancelling, is_resolving, line_above, outside, places, resolves, stands_below, text_if, text_or};
 
 use crate::columns::Wanted;
-use crate::line_words::{tells, word};
 use crate::picture::Drawn;
 use crate::placed::is_drawn;
+use picture_parts::{tells, word};
 use report_reader::Line;
 
 /// Where a line stands.

@@ -11,11 +11,12 @@ use crate::causes::causes_of;
 use crate::columns::Wanted;
 use crate::drawing::{Told, told_in};
 use crate::filled::filled;
-use crate::line_words::is_bookkeeping;
 use crate::lives::{Life, comes_to, is_end};
 use crate::looks::{Look, State};
 use crate::notes::Note;
 use crate::order::order_of;
+use crate::picture::Title;
+use picture_parts::{Names, is_bookkeeping};
 use report_reader::{Line, Said};
 use std::alloc::{AllocError, Global};
 use std::collections::HashMap;
@@ -34,6 +35,8 @@ pub struct Moment<'a> {
     pub at: u64,
     pub joined: bool,
     pub line: Line<'a>,
+    /// The line of the script that it comes from; empty where that is not known.
+    pub source: &'a [u8],
 }
 
 /// What happens on a track.
@@ -47,7 +50,7 @@ pub enum Happening {
     Arrives { at: u64, flow: u64 },
 }
 
-/// What happens on a track, with the line of the report that tells it.
+/// What happens on a track, with the line of the report that tells it, and the line of the script that this comes from.
 #[derive(Clone, Copy)]
 pub struct Event<'a> {
     pub track: u64,
@@ -55,11 +58,15 @@ pub struct Event<'a> {
     pub category: &'a [u8],
     pub happening: Happening,
     pub line: &'a [u8],
+    /// Empty where it is not known.
+    pub source: &'a [u8],
 }
 
 /// A trace of a report.
 #[derive(Drop)]
 pub struct Trace<'a> {
+    /// Of each coroutine, in the order of the tags, the name of its block, if there is a script.
+    pub names: &'a [Vec<u8>],
     pub tracks: Vec<Track>,
     pub moments: Vec<Moment<'a>>,
     /// Waits, states of Jobs, and arrows.
@@ -153,27 +160,33 @@ fn is_at(flags: &[bool], number: usize) -> bool {
 fn push_moment<'a>(
     moments: &mut Vec<Moment<'a>>,
     wanted: Wanted,
-    at: u64,
-    joined: bool,
+    at: (u64, bool),
+    source: &'a [u8],
     line: Line<'a>,
 ) -> Result<(), AllocError>
     ensures { OnOk result (map (λ m. told m.line) moments.new.items
         ≡ map (λ m. told m.line) moments.old.items ++ filter (is_traced wanted) (told line.entry ∷ [])) }
 {
     if is_traced(wanted, line) {
-        moments.push(Moment { at, joined, line })?;
+        let (at, joined) = at;
+        moments.push(Moment {
+            at,
+            joined,
+            line,
+            source,
+        })?;
     }
     Ok(())
 }
 
 /// The lines that are asked for, each with its time.
-#[tactic(auto, using(crate::proofs::Placing::filter_more))]
 fn moments_in<'a>(
     alloc: Global,
     wanted: Wanted,
     lines: &[Line<'a>],
     places: &[u64],
     joined: &[bool],
+    names: Names<'a>,
 ) -> Result<Vec<Moment<'a>>, AllocError>
     ensures { IfOk result (λ moments. map (λ m. told m.line) moments.items ≡ filter (is_traced wanted) (told_lines lines.now)) }
 {
@@ -184,8 +197,8 @@ fn moments_in<'a>(
         push_moment(
             &mut moments,
             wanted,
-            time_at(places, i),
-            is_at(joined, i),
+            (time_at(places, i), is_at(joined, i)),
+            names.source_at(i),
             *line,
         )?;
         i = i.saturating_add(1);
@@ -225,105 +238,136 @@ fn names_of<'a>(look: Look, note: &Note<'a>) -> (&'a [u8], &'a [u8]) {
     }
 }
 
+/// What events are made of.
+#[derive(Clone, Copy)]
+struct Setting<'s, 'a> {
+    wanted: Wanted,
+    /// Of each line of the books when it was written.
+    places: &'s [u64],
+    told: &'s Told<'a>,
+    names: Names<'a>,
+}
+
+impl<'s, 'a> Setting<'s, 'a> {
+    fn note(&self, number: usize) -> Option<Note<'a>> {
+        match self.told.notes.get(number) {
+            Some(note) => Some(*note),
+            None => None,
+        }
+    }
+
+    /// A line of the books, and the line of the script that it comes from.
+    fn title_at(&self, number: usize) -> Title<'a> {
+        Title {
+            line: match self.told.notes.get(number) {
+                Some(note) => note.text,
+                None => b"",
+            },
+            source: self.names.source_at(number),
+        }
+    }
+
+    /// When a line was written.
+    fn time(&self, number: usize) -> u64 {
+        time_at(self.places, number)
+    }
+
+    /// When the run ended.
+    fn end(&self) -> u64 {
+        time_at(self.places, usize::MAX)
+    }
+}
+
+/// An event on a track, with what is told of it.
+fn event_of<'a>(
+    track: u64,
+    names: (&'a [u8], &'a [u8]),
+    happening: Happening,
+    told: Title<'a>,
+) -> Event<'a> {
+    let (name, category) = names;
+    Event {
+        track,
+        name,
+        category,
+        happening,
+        line: told.line,
+        source: told.source,
+    }
+}
+
 /// Adds an arrow, if both its lines are asked for.
 fn push_flow<'a>(
     events: &mut Vec<Event<'a>>,
-    wanted: Wanted,
-    places: &[u64],
-    notes: &[Note<'a>],
+    setting: Setting<'_, 'a>,
     flow: u64,
     arrow: &Arrow,
 ) -> Result<(), AllocError> {
-    let (Some(from), Some(to)) = (notes.get(arrow.from), notes.get(arrow.to)) else {
+    let (Some(from), Some(to)) = (setting.note(arrow.from), setting.note(arrow.to)) else {
         return Ok(());
     };
-    if !is_seen(wanted, from) || !is_seen(wanted, to) {
+    if !is_seen(setting.wanted, &from) || !is_seen(setting.wanted, &to) {
         return Ok(());
     }
-    let (name, category) = names_of(arrow.look, from);
-    let at = time_at(places, arrow.from).saturating_add(1);
-    events.push(Event {
-        track: own_track(from.tag),
-        name,
-        category,
-        happening: Happening::Leaves { at, flow },
-        line: from.text,
-    })?;
-    let at = time_at(places, arrow.to).saturating_add(1);
-    events.push(Event {
-        track: own_track(to.tag),
-        name,
-        category,
-        happening: Happening::Arrives { at, flow },
-        line: to.text,
-    })?;
+    let names = names_of(arrow.look, &from);
+    let at = setting.time(arrow.from).saturating_add(1);
+    let leaves = Happening::Leaves { at, flow };
+    events.push(event_of(
+        own_track(from.tag),
+        names,
+        leaves,
+        setting.title_at(arrow.from),
+    ))?;
+    let at = setting.time(arrow.to).saturating_add(1);
+    let arrives = Happening::Arrives { at, flow };
+    events.push(event_of(
+        own_track(to.tag),
+        names,
+        arrives,
+        setting.title_at(arrow.to),
+    ))?;
     Ok(())
 }
 
 fn push_flows<'a>(
     events: &mut Vec<Event<'a>>,
-    wanted: Wanted,
-    places: &[u64],
-    notes: &[Note<'a>],
+    setting: Setting<'_, 'a>,
     arrows: &[Arrow],
 ) -> Result<(), AllocError> {
     for (flow, arrow) in arrows.iter().enumerate() {
-        push_flow(events, wanted, places, notes, flow as u64, arrow)?;
+        push_flow(events, setting, flow as u64, arrow)?;
     }
     Ok(())
 }
 
-/// Adds what lasts from after one time to before another.
-fn push_lasting<'a>(
-    events: &mut Vec<Event<'a>>,
-    track: u64,
-    name: &'a [u8],
-    category: &'a [u8],
-    times: (u64, u64),
-    line: &'a [u8],
-) -> Result<(), AllocError> {
-    let lasts = times.1.saturating_sub(times.0);
-    let happening = Happening::Lasts {
-        from: times.0,
-        lasts,
-    };
-    events.push(Event {
-        track,
-        name,
-        category,
-        happening,
-        line,
-    })?;
-    Ok(())
+/// What lasts from one time to another.
+fn lasting(from: u64, until: u64) -> Happening {
+    Happening::Lasts {
+        from,
+        lasts: until.saturating_sub(from),
+    }
 }
 
 /// Adds the waits, each from behind the line that began it to before its settle.
-fn push_waits<'a>(
-    events: &mut Vec<Event<'a>>,
-    wanted: Wanted,
-    places: &[u64],
-    told: &Told<'a>,
-) -> Result<(), AllocError> {
+fn push_waits<'a>(events: &mut Vec<Event<'a>>, setting: Setting<'_, 'a>) -> Result<(), AllocError> {
     let mut drawn: (u32, &'a [u8]) = (0, b"");
-    for (number, note) in told.notes.iter().enumerate() {
-        if note.waits() && is_seen(wanted, note) && !(drawn.0 == note.tag && drawn.1 == note.wait) {
+    for (number, note) in setting.told.notes.iter().enumerate() {
+        if note.waits()
+            && is_seen(setting.wanted, note)
+            && !(drawn.0 == note.tag && drawn.1 == note.wait)
+        {
             drawn = (note.tag, note.wait);
-            let until = match told.tables.wait(note.wait).settles {
-                Some(settle) => time_at(places, settle),
-                None => time_at(places, usize::MAX),
+            let until = match setting.told.tables.wait(note.wait).settles {
+                Some(settle) => setting.time(settle),
+                None => setting.end(),
             };
-            let times = (
-                time_at(places, number).saturating_add(9),
-                until.saturating_sub(1),
-            );
-            push_lasting(
-                events,
+            let from = setting.time(number).saturating_add(9);
+            events.push(event_of(
                 own_track(note.tag),
-                note.wait,
-                b"wait",
-                times,
-                note.text,
-            )?;
+                (note.wait, b"wait"),
+                lasting(from, until.saturating_sub(1)),
+                setting.title_at(number),
+            ))?;
         }
     }
     Ok(())
@@ -344,37 +388,29 @@ fn has_track<'a>(wanted: Wanted, told: &Told<'a>, row: u32) -> bool {
 /// Adds the stretch of a Job in one state.
 fn push_state<'a>(
     events: &mut Vec<Event<'a>>,
-    places: &[u64],
-    notes: &[Note<'a>],
+    setting: Setting<'_, 'a>,
     row: u32,
     life: Life,
     until: u64,
 ) -> Result<(), AllocError> {
-    let line = match notes.get(life.since) {
-        Some(note) => note.text,
-        None => b"",
-    };
-    let times = (time_at(places, life.since), until);
-    let track = own_track(row).saturating_add(1);
-    push_lasting(events, track, life.state.word(), b"state", times, line)
+    events.push(event_of(
+        own_track(row).saturating_add(1),
+        (life.state.word(), b"state"),
+        lasting(setting.time(life.since), until),
+        setting.title_at(life.since),
+    ))?;
+    Ok(())
 }
 
 impl<'a> Building<'a> {
     /// The Job comes to a state.
-    fn change(
-        &mut self,
-        places: &[u64],
-        notes: &[Note<'a>],
-        row: u32,
-        new: Life,
-    ) -> Result<(), AllocError> {
+    fn change(&mut self, setting: Setting<'_, 'a>, row: u32, new: Life) -> Result<(), AllocError> {
         match self.jobs.get(&row).copied() {
             Some(old) => {
                 if !comes_to(old.state, new.state) {
                     return Ok(());
                 }
-                let until = time_at(places, new.since);
-                push_state(&mut self.events, places, notes, row, old, until)?;
+                push_state(&mut self.events, setting, row, old, setting.time(new.since))?;
             }
             None => {
                 self.tracks.push(Track {
@@ -388,18 +424,12 @@ impl<'a> Building<'a> {
     }
 
     /// What a line says of its own coroutine: its first line, that it has a track; and of Jobs.
-    fn pass_line(
-        &mut self,
-        wanted: Wanted,
-        places: &[u64],
-        told: &Told<'a>,
-        since: usize,
-    ) -> Result<(), AllocError> {
-        let Some(note) = told.notes.get(since) else {
+    fn pass_line(&mut self, setting: Setting<'_, 'a>, since: usize) -> Result<(), AllocError> {
+        let Some(note) = setting.note(since) else {
             return Ok(());
         };
-        let notes = told.notes.as_slice();
-        if told.tables.row(note.tag).first == Some(since)
+        let wanted = setting.wanted;
+        if setting.told.tables.row(note.tag).first == Some(since)
             && wanted.first <= note.tag
             && note.tag <= wanted.last
         {
@@ -409,26 +439,25 @@ impl<'a> Building<'a> {
             })?;
             if self.jobs.get(&note.tag).is_none() {
                 let state = State::Active;
-                self.change(places, notes, note.tag, Life { state, since })?;
+                self.change(setting, note.tag, Life { state, since })?;
             }
         }
         if let Some(state) = note.state()
-            && has_track(wanted, told, note.row)
+            && has_track(wanted, setting.told, note.row)
         {
-            self.change(places, notes, note.row, Life { state, since })?;
+            self.change(setting, note.row, Life { state, since })?;
         }
         Ok(())
     }
 
     /// The last stretches of the Jobs that have not ended.
-    fn push_last(&mut self, places: &[u64], notes: &[Note<'a>]) -> Result<(), AllocError> {
-        let until = time_at(places, usize::MAX);
+    fn push_last(&mut self, setting: Setting<'_, 'a>) -> Result<(), AllocError> {
         for track in self.tracks.iter() {
             if track.is_job
                 && let Some(life) = self.jobs.get(&track.number).copied()
                 && !is_end(life.state)
             {
-                push_state(&mut self.events, places, notes, track.number, life, until)?;
+                push_state(&mut self.events, setting, track.number, life, setting.end())?;
             }
         }
         Ok(())
@@ -448,32 +477,24 @@ fn joined_by(alloc: Global, lines: usize, arrows: &[Arrow]) -> Result<Vec<bool>,
     Ok(joined)
 }
 
-/// The tracks, and what happens on them besides the lines.
+/// The tracks, and what happens on them besides the lines, which are gone through in this order.
 fn build<'a>(
     alloc: Global,
-    wanted: Wanted,
-    times: &Times,
-    told: &Told<'a>,
+    setting: Setting<'_, 'a>,
+    order: &[usize],
     arrows: &[Arrow],
 ) -> Result<Building<'a>, AllocError> {
-    let places = times.places.as_slice();
     let mut building = Building {
         tracks: Vec::new(alloc),
         events: Vec::new(alloc),
         jobs: HashMap::new(alloc),
     };
-    for number in times.order.iter() {
-        building.pass_line(wanted, places, told, *number)?;
+    for number in order {
+        building.pass_line(setting, *number)?;
     }
-    building.push_last(places, told.notes.as_slice())?;
-    push_waits(&mut building.events, wanted, places, told)?;
-    push_flows(
-        &mut building.events,
-        wanted,
-        places,
-        told.notes.as_slice(),
-        arrows,
-    )?;
+    building.push_last(setting)?;
+    push_waits(&mut building.events, setting)?;
+    push_flows(&mut building.events, setting, arrows)?;
     Ok(building)
 }
 
@@ -483,29 +504,34 @@ fn arrows_in<'a>(alloc: Global, told: &Told<'a>) -> Result<Vec<Arrow>, AllocErro
     arrows_of(alloc, notes, &told.tables, &channels)
 }
 
-/// The trace of a report: each line that is asked for, and what its coroutines and Jobs went through.
+/// The trace of a report: each line that is asked for, and what its coroutines and Jobs went through. The names are those of a script
+/// that the report is one of.
 pub fn trace_of<'a>(
     alloc: Global,
     wanted: Wanted,
+    names: Names<'a>,
     lines: &[Line<'a>],
 ) -> Result<Tracing<'a>, AllocError>
-    ensures { IfOk result (λ tracing. Tells wanted (told_lines lines.now) tracing.trace) }
+    ensures told { IfOk result (λ tracing. Tells wanted (told_lines lines.now) tracing.trace) }
+    ensures names { IfOk result (λ tracing. tracing.trace.names.now ≡ names.entry.blocks.now) }
 {
     let told = told_in(alloc, lines)?;
     let arrows = arrows_in(alloc, &told)?;
     let times = times_of(alloc, &told)?;
     let joined = joined_by(alloc, told.notes.len(), arrows.as_slice())?;
-    let moments = moments_in(
-        alloc,
+    let places = times.places.as_slice();
+    let moments = moments_in(alloc, wanted, lines, places, joined.as_slice(), names)?;
+    let setting = Setting {
         wanted,
-        lines,
-        times.places.as_slice(),
-        joined.as_slice(),
-    )?;
-    let built = build(alloc, wanted, &times, &told, arrows.as_slice())?;
+        places,
+        told: &told,
+        names,
+    };
+    let built = build(alloc, setting, times.order.as_slice(), arrows.as_slice())?;
     let Building { tracks, events, .. } = built;
     Ok(Tracing {
         trace: Trace {
+            names: names.blocks,
             tracks,
             moments,
             events,

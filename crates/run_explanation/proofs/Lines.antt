@@ -1,10 +1,12 @@
--- The loop over the lines of a text.
-use Rattle.std.proofs.Common.{◌≡◌, ℕ, ◌+◌, ◌==◌, List, [], ◌∷◌, refl, ap, sym, ◌∙◌, Option, Some, None, Bool, true, false, true≢false, if◌then◌else◌}
+-- The loop over the lines of a text, and that over the coroutines.
+use Rattle.std.proofs.Common.{◌≡◌, ℕ, suc, ◌+◌, ◌++◌, arith, ◌==◌, List, [], ◌∷◌, refl, ap, sym, ◌∙◌, Option, Some, None, Bool, true, false, true≢false, if◌then◌else◌}
 use Rattle.std.specs.List.{slice_split}
 use denote.Ref.{Bor}
 use Rattle.script_grammar.specs.Programs.{Program}
 use Rattle.report_reader.specs.Words.{parts}
+use Rattle.run_explanation.specs.Answers.{name_of_tag}
 use Rattle.run_explanation.specs.Fitting.{fits, misfit_from}
+use Rattle.run_explanation.specs.Naming.{names_below}
 
 lines_cons : (p : Program) (n : ℕ) (good : Bool) (line : List ℕ) (more : List (List ℕ)) → good ≡ fits p line
     → misfit_from p n (line ∷ more) ≡ (if good then misfit_from p (n + 1) more else Some n)
@@ -41,3 +43,7 @@ pub lines_more : (good : Bool) (p : Program) (n : ℕ) (rest line : List ℕ) (n
 lines_more false p n rest line next all inv is fit ok = absurd (true≢false (sym ok))
 lines_more true p n rest line next all inv is fit ok =
     sym (lines_cons p n true line (slice_split (λ b. b == 10) next.now) fit) ∙ ap (misfit_from p n) is ∙ inv
+
+-- the names of the coroutines below the next one
+pub names_more : (p : Program) (tag : ℕ) → names_below p (tag + 1) ≡ names_below p tag ++ name_of_tag p tag ∷ []
+names_more p tag = let next : tag + 1 ≡ suc tag = omega arith in ap (names_below p) next

@@ -154,3 +154,20 @@ GivesFor p report (Ok text) = (lines : List Line) × (lines_for p report ≡ Ok 
 GivesFor p report (Err (faults.NoScript fault)) = ⊥
 GivesFor p report (Err (faults.NoReport line)) = lines_for p report ≡ Err line
 GivesFor p report (Err faults.Memory) = Unit {0}
+
+-- ---- who waits, alone
+
+-- an entry on one line, which begins with two blanks, without its further hints
+abbrev pub wait_line : Entry → List ℕ
+wait_line e = codes "  " ++ (e.heading.items ++ (plain (string_bytes e.hint) ++ codes "\n"))
+
+-- the text has a line for each coroutine that waits, in their order, whatever their hints say
+pub record TellsWaits (p : Program) (lines : List Line) (text : List ℕ) : Type 0 where
+  pub entries : List Entry
+  pub all : headed entries ≡ map (waits_text p) (waiting lines)
+  pub is_text : text ≡ flat_map wait_line entries
+
+-- the same of a report, if it is one of this script, or of nothing
+abbrev pub WaitsOf : Program → Result (List Line) ℕ → List ℕ → Type 0
+WaitsOf p (Ok lines) text = TellsWaits p lines text
+WaitsOf p (Err line) text = text ≡ []

@@ -2,3 +2,4 @@ pub mod Parts
 pub mod Fitting
 pub mod Waiting
 pub mod Answers
+pub mod Naming

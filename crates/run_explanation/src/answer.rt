@@ -3,11 +3,12 @@
 ghost use Rattle.std.specs.Prelude.{◌≡◌, ◌≤◌, ◌++◌, IfOk, OnOk, length};
 ghost use Rattle.script_reader.specs.Scripts.{program_of};
 ghost use Rattle.report_reader.specs.Reading.{told_lines};
-ghost use Rattle.run_explanation.specs.Answers.{Blames, Explains, Gives, GivesFor, calm_text, headed, left_open, texts_from};
+ghost use Rattle.run_explanation.specs.Answers.{Blames, Explains, Gives, GivesFor, TellsWaits, WaitsOf, calm_text, headed, left_open, texts_from};
+ghost use Rattle.run_explanation.specs.Fitting.{lines_for};
 ghost use Rattle.run_explanation.specs.Waiting.{waiting};
 
 use crate::classes::{Class, texts_of};
-use crate::entries::{Entry, push_entries, push_lines, push_waits};
+use crate::entries::{Entry, push_entries, push_lines, push_wait_lines, push_waits};
 use crate::fits::lines_for;
 use crate::parts::parts_of;
 use crate::story::{Story, story_of};
@@ -126,7 +127,7 @@ fn explain_report(
     source: &[u8],
     report: &[u8],
 ) -> Result<Vec<u8>, Unexplained>
-    requires { length report.now ≤ 1048576 }
+    requires { length report.now ≤ 67108864 }
     ensures { GivesFor (program_of script.now) report.now result }
 {
     match lines_for(alloc, script, report) {
@@ -155,7 +156,7 @@ fn told(
 }
 
 /// What a fault of the script is told as.
-fn blamed(fault: ScriptFault) -> Unexplained
+pub(crate) fn blamed(fault: ScriptFault) -> Unexplained
     ensures { Blames fault result }
 {
     match fault.kind {
@@ -166,7 +167,7 @@ fn blamed(fault: ScriptFault) -> Unexplained
 
 /// Says in words what a report of a script comes to: the input is the script, a line `report`, and the report.
 pub fn explain(alloc: Global, input: &[u8]) -> Result<Vec<u8>, Unexplained>
-    requires { length input.now ≤ 1048576 }
+    requires { length input.now ≤ 67108864 }
     ensures { Gives input.now result }
 {
     let parts = parts_of(input);
@@ -174,4 +175,40 @@ pub fn explain(alloc: Global, input: &[u8]) -> Result<Vec<u8>, Unexplained>
         Ok(script) => explain_report(alloc, &script, parts.script, parts.report),
         Err(fault) => Err(blamed(fault)),
     }
+}
+
+/// Says of a report of a script, of which this is the text, which coroutines it leaves waiting: `  worker 3 waits at line 5: receive a`.
+/// Nothing, if the report is none of this script.
+pub fn explain_waits(
+    alloc: Global,
+    script: &Script,
+    source: &[u8],
+    report: &[u8],
+) -> Result<Vec<u8>, AllocError>
+    requires { length report.now ≤ 67108864 }
+    ensures { IfOk result (λ text. WaitsOf (program_of script.now) (lines_for (program_of script.now) report.now) text.items) }
+{
+    match lines_for(alloc, script, report) {
+        Ok(lines) => told_waits(alloc, script, source, lines.as_slice()),
+        Err(NoReport::AtLine(_)) => Ok(Vec::new(alloc)),
+        Err(NoReport::Memory) => Err(AllocError),
+    }
+}
+
+/// The same of a report with these lines.
+fn told_waits(
+    alloc: Global,
+    script: &Script,
+    source: &[u8],
+    lines: &[Line],
+) -> Result<Vec<u8>, AllocError>
+    ensures { IfOk result (λ text. TellsWaits (program_of script.now) (told_lines lines.now) text.items) }
+{
+    let story = story_of(alloc, script, source, lines)?;
+    let waits = waiting(alloc, lines)?;
+    let mut entries = Vec::new(alloc);
+    push_waits(alloc, &mut entries, script, &story, waits.as_slice())?;
+    let mut text = Vec::new(alloc);
+    push_wait_lines(&mut text, entries.as_slice())?;
+    Ok(text)
 }

@@ -5,7 +5,7 @@ ghost use Rattle.std.specs.List.{flat_map};
 ghost use Rattle.script_reader.specs.Programs.{block_of};
 ghost use Rattle.script_reader.specs.Scripts.{program_of};
 ghost use Rattle.report_reader.specs.Words.{texts};
-ghost use Rattle.run_explanation.specs.Answers.{entry_text, headed, hint_line, name_of_block, name_of_tag, plain, plain_byte, waits_text};
+ghost use Rattle.run_explanation.specs.Answers.{entry_text, headed, hint_line, name_of_block, name_of_tag, plain, plain_byte, wait_line, waits_text};
 
 use crate::hints::{Hint, line_hint, wait_hint};
 use crate::story::Story;
@@ -158,6 +158,29 @@ pub(crate) fn push_entries(out: &mut Vec<u8>, entries: &[Entry]) -> Result<(), A
     let mut rest = entries;
     while let [entry, more @ ..] = rest {
         push_text(out, entry)?;
+        rest = more;
+    }
+    Ok(())
+}
+
+/// Adds an entry on one line.
+fn push_wait_line(out: &mut Vec<u8>, entry: &Entry) -> Result<(), AllocError>
+    ensures { OnOk result (out.new.items ≡ out.old.items ++ wait_line entry.now) }
+{
+    out.extend_from_slice(b"  ")?;
+    out.extend_from_slice(entry.heading.as_slice())?;
+    push_plain(out, entry.hint.as_bytes())?;
+    out.extend_from_slice(b"\n")?;
+    Ok(())
+}
+
+/// Adds entries, each on one line.
+pub(crate) fn push_wait_lines(out: &mut Vec<u8>, entries: &[Entry]) -> Result<(), AllocError>
+    ensures { OnOk result (out.new.items ≡ out.old.items ++ flat_map wait_line entries.now) }
+{
+    let mut rest = entries;
+    while let [entry, more @ ..] = rest {
+        push_wait_line(out, entry)?;
         rest = more;
     }
     Ok(())

@@ -200,7 +200,7 @@ fn fits<'a>(script: &Script, words: &mut Vec<&'a [u8]>, line: &'a [u8]) -> Resul
 
 /// The number of the first line of a text that names something that the script has not.
 fn misfit_in(alloc: Global, script: &Script, text: &[u8]) -> Result<Option<u32>, AllocError>
-    requires { length text.now ≤ 1048576 }
+    requires { length text.now ≤ 67108864 }
     ensures { IfOk result (λ n. n ≡ misfit_in (program_of script.now) text.now) }
 {
     let mut words = Vec::new(alloc);
@@ -225,7 +225,7 @@ pub(crate) fn lines_for<'a>(
     script: &Script,
     text: &'a [u8],
 ) -> Result<Vec<Line<'a>>, NoReport>
-    requires { length text.now ≤ 1048576 }
+    requires { length text.now ≤ 67108864 }
     ensures { Gives result (lines_for (program_of script.now) text.now) }
 {
     match misfit_in(alloc, script, text) {

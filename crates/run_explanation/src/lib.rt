@@ -7,6 +7,7 @@
 //! - `notes`, `source`, `walk`, `story`, `partners`, `hints`: what an entry says behind its heading, of which nothing is promised.
 //! - `entries`: the entries of an explanation, and its text.
 //! - `answer`: the explanation of an input.
+//! - `naming`: names of coroutines, and lines of the script, beside the lines of a report.
 #![tactic(auto)]
 
 mod answer;
@@ -15,6 +16,7 @@ mod entries;
 mod fits;
 mod hints;
 mod marks;
+mod naming;
 mod notes;
 mod partners;
 mod parts;
@@ -23,5 +25,6 @@ mod story;
 mod waiting;
 mod walk;
 
-pub use answer::{Unexplained, explain};
+pub use answer::{Unexplained, explain, explain_waits};
+pub use naming::{Named, name_lines};
 pub use script_grammar::{FaultKind, ScriptFault};

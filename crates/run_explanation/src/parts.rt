@@ -19,7 +19,7 @@ fn is_marked(text: &[u8]) -> bool
 
 /// The place of the first line `report`.
 fn mark_in(bytes: &[u8]) -> Option<usize>
-    requires { length bytes.now ≤ 1048576 }
+    requires { length bytes.now ≤ 67108864 }
     ensures { result ≡ mark_in bytes.now }
 {
     let mut begins = true;
@@ -49,9 +49,9 @@ fn before_mark(mark: Option<usize>, bytes: &[u8]) -> &[u8]
 
 /// What stands behind the mark.
 fn behind_mark(mark: Option<usize>, bytes: &[u8]) -> &[u8]
-    requires { length bytes.now ≤ 1048576 }
+    requires { length bytes.now ≤ 67108864 }
     ensures value { result.now ≡ behind_mark mark bytes.now }
-    ensures short { length result.now ≤ 1048576 }
+    ensures short { length result.now ≤ 67108864 }
 {
     match mark {
         None => b"",
@@ -61,10 +61,10 @@ fn behind_mark(mark: Option<usize>, bytes: &[u8]) -> &[u8]
 
 /// The script and the report.
 pub(crate) fn parts_of(bytes: &[u8]) -> Parts<'_>
-    requires { length bytes.now ≤ 1048576 }
+    requires { length bytes.now ≤ 67108864 }
     ensures script { result.script.now ≡ script_in bytes.now }
     ensures report { result.report.now ≡ report_in bytes.now }
-    ensures short { length result.report.now ≤ 1048576 }
+    ensures short { length result.report.now ≤ 67108864 }
 {
     let mark = mark_in(bytes);
     Parts {

@@ -53,6 +53,15 @@ pub(crate) fn story_of<'a>(
     Ok(story)
 }
 
+/// How many coroutines the script spawns: main attaches them before its first line.
+fn spawned(script: &Script) -> usize {
+    let mut count = 0usize;
+    for spawn in script.spawns() {
+        count = count.saturating_add(spawn.count as usize);
+    }
+    count
+}
+
 impl<'a> Story<'a> {
     fn find_parents(&mut self) {
         for note in self.notes.as_slice() {
@@ -81,7 +90,12 @@ impl<'a> Story<'a> {
         for tag in 0..self.script.coroutines() {
             let mut walk = walk_of(alloc, self.script, u32::from(tag));
             let (first, end) = self.book(u32::from(tag));
-            for number in first..end {
+            let own = if tag == 0 {
+                first.saturating_add(spawned(self.script))
+            } else {
+                first
+            };
+            for number in own..end {
                 if let Some(note) = self.notes.get(number)
                     && let Some(place) = self.made_at.get_mut(number)
                 {

@@ -29,7 +29,11 @@ pub made_of : (r : Result Answer Outcome) (what : Asked) (source source' : Strea
 made_of (Ok answer) what source source' input given drained m =
     record { what = what; is_asked = refl; input = input; given = given; drained = drained; pictures = m }
 made_of (Err (outcomes.NoReport line)) what source source' input given drained m =
-    (tt, record { input = input; given = given; drained = drained; no_report = m })
+    record { input = input; given = given; drained = drained; is = m }
+made_of (Err (outcomes.NotOfScript line)) what source source' input given drained m =
+    record { input = input; given = given; drained = drained; is = m }
+made_of (Err (outcomes.NoScript fault)) what source source' input given drained m =
+    record { input = input; given = given; drained = drained; is = m }
 made_of (Err outcomes.NoMemory) what source source' input given drained m = tt
 made_of (Err (outcomes.Drawn shown)) what source source' input given drained m = absurd m
 made_of (Err outcomes.WriteFault) what source source' input given drained m = absurd m

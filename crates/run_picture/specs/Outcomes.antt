@@ -1,11 +1,16 @@
 -- What each outcome of a call says of the words, of what was read and of what was written.
-use Rattle.std.specs.Prelude.{◌≡◌, ℕ, Bool, true, false, List, length, nat_lt, Option, Some, None, Result, Ok, Err, String, map, string_bytes, option_and_then}
+use Rattle.std.specs.Prelude.{◌≡◌, ℕ, Bool, true, false, List, [], length, nat_lt, Option, Some, None, Result, Ok, Err, String, map, string_bytes, option_and_then}
 use Rattle.std.specs.Global.{Global}
 use Rattle.std.specs.Vec.Iter.{into_iter_items}
 use Rattle.std.specs.declared.vec.IntoIter.{IntoIter}
 use lib.Chars.{codes}
 use Rattle.co_base.specs.Streams.{Rose, Gave, GaveJust, IsDrained, Took, TookPart}
 use Rattle.report_reader.specs.Reports.{Line, report_of}
+use Rattle.script_grammar.specs.declared.fault.ScriptFault.{ScriptFault}
+use Rattle.run_explanation.specs.Answers.{Refuses}
+use Rattle.run_explanation.specs.Naming.{AreNamed}
+use Rattle.run_explanation.specs.declared.answer.Unexplained.TheVariants as faults
+use Rattle.picture_parts.specs.declared.names.Names.{Names}
 use Rattle.report_picture.specs.declared.columns.Wanted.{Wanted}
 use Rattle.report_picture.specs.Pictures.{all_have_columns, tags_of}
 use Rattle.report_picture.specs.Shown.{Shows}
@@ -30,7 +35,9 @@ use Rattle.run_picture.specs.Words.{asked_of}
 abbrev pub number_of : Outcome → ℕ
 number_of (outcomes.Drawn shown) = 0
 number_of outcomes.Refused = 2
+number_of (outcomes.NoScript fault) = 3
 number_of (outcomes.NoReport line) = 3
+number_of (outcomes.NotOfScript line) = 3
 number_of outcomes.TooLong = 3
 number_of outcomes.ReadFault = 5
 number_of outcomes.WriteFault = 6
@@ -52,7 +59,9 @@ is_large other = false
 abbrev pub message_of : Outcome → Option Message
 message_of (outcomes.Drawn shown) = message_of_shown shown.in_order shown.all
 message_of outcomes.Refused = Some messages.Usage
+message_of (outcomes.NoScript fault) = Some (messages.NoScript fault.line)
 message_of (outcomes.NoReport line) = Some (messages.NoReport line)
+message_of (outcomes.NotOfScript line) = Some (messages.NotOfScript line)
 message_of outcomes.TooLong = Some messages.TooLong
 message_of outcomes.ReadFault = Some messages.ReadFault
 message_of outcomes.WriteFault = Some messages.WriteFault
@@ -64,17 +73,24 @@ IsWrittenAs formats.Svg picture text = (text ≡ svg_text picture) × IsDocument
 IsWrittenAs formats.Mermaid picture text = IsDiagramOf picture text
 IsWrittenAs formats.Trace picture text = ⊥
 
--- the text is a picture of a report with these lines, in this format, of what is wanted, and shows so much of it
-pub record Depicts (format : Format) (wanted : Wanted) (shown : Shown) (lines : List Line) (text : List ℕ) : Type 0 where
-  pub picture : Picture
-  pub shows : Shows shown.in_order wanted lines picture
-  pub all : shown.all ≡ all_have_columns wanted (tags_of wanted lines) lines
-  pub large : shown.large ≡ nat_lt 2000 (length picture.lines.items)
-  pub is_text : IsWrittenAs format picture text
+-- what coroutines are called by a script
+abbrev pub called : Names → List (List ℕ)
+called names = map (λ n. n.items) names.blocks.now
 
--- the text is a trace of a report with these lines, of what is wanted
-pub record Traces (wanted : Wanted) (shown : Shown) (lines : List Line) (text : List ℕ) : Type 0 where
+-- the text is a picture of a report with these lines, in this format, of what is wanted, with these names, and shows so much of it
+pub record Depicts (format : Format) (wanted : Wanted) (shown : Shown) (names : List (List ℕ)) (lines : List Line) (text : List ℕ) : Type 0
+  where
+    pub picture : Picture
+    pub named : map (λ n. n.items) picture.names.now ≡ names
+    pub shows : Shows shown.in_order wanted lines picture
+    pub all : shown.all ≡ all_have_columns wanted (tags_of wanted lines) lines
+    pub large : shown.large ≡ nat_lt 2000 (length picture.lines.items)
+    pub is_text : IsWrittenAs format picture text
+
+-- the text is a trace of a report with these lines, of what is wanted, with these names
+pub record Traces (wanted : Wanted) (shown : Shown) (names : List (List ℕ)) (lines : List Line) (text : List ℕ) : Type 0 where
   pub trace : Trace
+  pub named : map (λ n. n.items) trace.names.now ≡ names
   pub tells : Tells wanted lines trace
   pub is_text : text ≡ trace_text trace
   pub is_json : IsJson text
@@ -82,20 +98,44 @@ pub record Traces (wanted : Wanted) (shown : Shown) (lines : List Line) (text : 
   pub large : shown.large ≡ false
 
 -- the text shows a report with these lines, in this format
-abbrev pub ShowsAs : Format → Wanted → Shown → List Line → List ℕ → Type 0
-ShowsAs formats.Svg wanted shown lines text = Depicts formats.Svg wanted shown lines text
-ShowsAs formats.Mermaid wanted shown lines text = Depicts formats.Mermaid wanted shown lines text
-ShowsAs formats.Trace wanted shown lines text = Traces wanted shown lines text
+abbrev pub ShowsAs : Format → Wanted → Shown → List (List ℕ) → List Line → List ℕ → Type 0
+ShowsAs formats.Svg wanted shown names lines text = Depicts formats.Svg wanted shown names lines text
+ShowsAs formats.Mermaid wanted shown names lines text = Depicts formats.Mermaid wanted shown names lines text
+ShowsAs formats.Trace wanted shown names lines text = Traces wanted shown names lines text
 
 -- the same, as it is asked for
-abbrev pub ShowsLines : Asked → Shown → List Line → List ℕ → Type 0
-ShowsLines asked shown lines text = ShowsAs asked.format asked.wanted shown lines text
+abbrev pub ShowsLines : Asked → Shown → List (List ℕ) → List Line → List ℕ → Type 0
+ShowsLines asked shown names lines text = ShowsAs asked.format asked.wanted shown names lines text
 
--- the input is a report, and the text a picture of it, as it is asked for
-pub record Pictures (asked : Asked) (shown : Shown) (input text : List ℕ) : Type 0 where
+-- the input has these lines: it is a report, and there are no names; or a script and a report of it, and the names are the script's
+abbrev pub IsRead : Bool → List ℕ → List Line → List (List ℕ) → Type 0
+IsRead false input lines names = (report_of input ≡ Ok lines) × (names ≡ [])
+IsRead true input lines names = AreNamed input lines names
+
+-- the input has no such lines: this is the first line of it that is none of a report
+abbrev pub IsNoReport : Bool → List ℕ → ℕ → Type 0
+IsNoReport false input line = report_of input ≡ Err line
+IsNoReport true input line = ⊥
+
+-- the same of a report that stands behind its script
+abbrev pub IsNotOfScript : Bool → List ℕ → ℕ → Type 0
+IsNotOfScript false input line = ⊥
+IsNotOfScript true input line = Refuses input (faults.NoReport line)
+
+-- the same of that script
+abbrev pub IsNoScript : Bool → List ℕ → ScriptFault → Type 0
+IsNoScript false input fault = ⊥
+IsNoScript true input fault = Refuses input (faults.NoScript fault)
+
+-- the input is a report, with its script if one is asked for, and the text a picture of it, as it is asked for
+pub record PicturesFor (script : Bool) (asked : Asked) (shown : Shown) (input text : List ℕ) : Type 0 where
   pub lines : List Line
-  pub is_report : report_of input ≡ Ok lines
-  pub pictured : ShowsLines asked shown lines text
+  pub names : List (List ℕ)
+  pub is_read : IsRead script input lines names
+  pub pictured : ShowsLines asked shown names lines text
+
+abbrev pub Pictures : Asked → Shown → List ℕ → List ℕ → Type 0
+Pictures asked shown input text = PicturesFor asked.script asked shown input text
 
 -- the bytes of a source or a sink, and how often it failed
 pub record Stream : Type 0 where
@@ -133,18 +173,27 @@ abbrev pub IsAsked : Option Asked → Type 0
 IsAsked None = ⊥
 IsAsked (Some what) = Unit {0}
 
--- the source gave a text that is no report, of which this is the first line that is none
-pub record RefusesAt (line : ℕ) (source source' : Stream) : Type 0 where
+-- a picture is asked for, and this is so of whether a script is
+abbrev pub AskedSo : (Bool → Type 0) → Option Asked → Type 0
+AskedSo P None = ⊥
+AskedSo P (Some what) = P what.script
+
+-- the source gave an input, of which this is so
+pub record Reads (source source' : Stream) (P : List ℕ → Type 0) : Type 0 where
   pub input : List ℕ
   pub given : Gave source.bytes source'.bytes input
   pub drained : IsDrained source'.bytes
-  pub no_report : report_of input ≡ Err line
+  pub is : P input
 
 -- why a call has no picture to write; that no memory was found says nothing
 abbrev pub Fails : Outcome → Option Asked → Stream → Stream → Type 0
 Fails (outcomes.Drawn shown) asked source source' = ⊥
 Fails outcomes.Refused asked source source' = (asked ≡ None) × (source ≡ source')
-Fails (outcomes.NoReport line) asked source source' = IsAsked asked × RefusesAt line source source'
+Fails (outcomes.NoScript fault) asked source source' = Reads source source'
+    (λ input. AskedSo (λ script. IsNoScript script input fault) asked)
+Fails (outcomes.NoReport line) asked source source' = Reads source source' (λ input. AskedSo (λ script. IsNoReport script input line) asked)
+Fails (outcomes.NotOfScript line) asked source source' =
+    Reads source source' (λ input. AskedSo (λ script. IsNotOfScript script input line) asked)
 Fails outcomes.TooLong asked source source' = IsAsked asked × GaveJust 67108865 source.bytes source'.bytes
 Fails outcomes.ReadFault asked source source' = IsAsked asked × Rose source.faults source'.faults
 Fails outcomes.WriteFault asked source source' = ⊥
@@ -156,11 +205,16 @@ IsMade (Ok answer) asked source source' = Answers asked answer.shown source sour
 IsMade (Err outcome) asked source source' = Fails outcome asked source source'
 
 -- the same of the bytes of the input
+abbrev pub IsMadeFor : Bool → Asked → List ℕ → Result Answer Outcome → Type 0
+IsMadeFor script asked input (Ok answer) = PicturesFor script asked answer.shown input answer.text.items
+IsMadeFor script asked input (Err (outcomes.NoScript fault)) = IsNoScript script input fault
+IsMadeFor script asked input (Err (outcomes.NoReport line)) = IsNoReport script input line
+IsMadeFor script asked input (Err (outcomes.NotOfScript line)) = IsNotOfScript script input line
+IsMadeFor script asked input (Err outcomes.NoMemory) = Unit {0}
+IsMadeFor script asked input (Err other) = ⊥
+
 abbrev pub IsMadeOf : Asked → List ℕ → Result Answer Outcome → Type 0
-IsMadeOf asked input (Ok answer) = Pictures asked answer.shown input answer.text.items
-IsMadeOf asked input (Err (outcomes.NoReport line)) = report_of input ≡ Err line
-IsMadeOf asked input (Err outcomes.NoMemory) = Unit {0}
-IsMadeOf asked input (Err other) = ⊥
+IsMadeOf asked input result = IsMadeFor asked.script asked input result
 
 -- what each outcome says: a picture was written whole, or a part of it until a write failed, or nothing was written
 abbrev pub Means : Outcome → Option Asked → Stream → Stream → Stream → Stream → Type 0

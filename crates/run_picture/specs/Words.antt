@@ -5,6 +5,7 @@ use Rattle.std.specs.Prelude.{◌==◌, ◌^◌, ◌-◌}
 use Rattle.std.specs.Str.{bytes_eq}
 use lib.Chars.{codes}
 use Rattle.clap.specs.Words.{App, Kinds, Row, Rule, fault_of, first_of, matches_of, new_app, new_rule, with_rule}
+use Rattle.clap.specs.declared.builder.action.ArgAction.TheVariants.{SetTrue}
 use Rattle.report_reader.specs.Words.{value_at}
 use Rattle.report_picture.specs.declared.columns.Wanted.{Wanted}
 use Rattle.run_picture.specs.declared.words.Format.{Format}
@@ -18,11 +19,17 @@ use Rattle.run_picture.specs.declared.words.Asked.{Asked}
 abbrev pub option : List ℕ → Rule
 option name = record (new_rule name) { long = Some name }
 
--- run_picture [--format F] [--coroutines A-B] [--only channels] [--lines A-B]
+-- an option of this name, without a value
+abbrev pub switch : List ℕ → Rule
+switch name = record (option name) { action = Some SetTrue }
+
+-- run_picture [--format F] [--coroutines A-B] [--only channels] [--lines A-B] [--script]
 abbrev pub picture_line : App
 picture_line =
-    with_rule (with_rule (with_rule (with_rule (new_app (codes "run_picture")) (option (codes "format"))) (option (codes "coroutines")))
-    (option (codes "only"))) (option (codes "lines"))
+    with_rule
+    (with_rule (with_rule (with_rule (with_rule (new_app (codes "run_picture")) (option (codes "format")))
+    (option (codes "coroutines")))
+    (option (codes "only"))) (option (codes "lines"))) (switch (codes "script"))
 
 -- the matches, where nothing is at fault
 abbrev pub unless_faulty : Kinds → List Row → Option (List Row)
@@ -53,6 +60,11 @@ format_for format lines = format
 abbrev pub only_of : Option (List ℕ) → Option Bool
 only_of None = Some false
 only_of (Some word) = if bytes_eq word (codes "channels") then Some true else None
+
+-- whether a script stands in front of the report
+abbrev pub script_of : Option (List ℕ) → Bool
+script_of None = false
+script_of (Some word) = bytes_eq word (codes "true")
 
 -- from the first number to the last, which is not less
 abbrev pub range_between : Option ℕ → Option ℕ → Option Range
@@ -87,21 +99,24 @@ wanted_by coroutines only lines = record {
   to = lines.last;
 }
 
-abbrev pub asked_with : Option Format → Option Range → Option Bool → Option Range → Option Asked
-asked_with None coroutines only lines = None
-asked_with (Some format) None only lines = None
-asked_with (Some format) (Some coroutines) None lines = None
-asked_with (Some format) (Some coroutines) (Some only) None = None
-asked_with (Some format) (Some coroutines) (Some only) (Some lines) =
-    Some (record { format = format; wanted = wanted_by coroutines only lines })
+abbrev pub asked_with : Bool → Option Format → Option Range → Option Bool → Option Range → Option Asked
+asked_with script None coroutines only lines = None
+asked_with script (Some format) None only lines = None
+asked_with script (Some format) (Some coroutines) None lines = None
+asked_with script (Some format) (Some coroutines) (Some only) None = None
+asked_with script (Some format) (Some coroutines) (Some only) (Some lines) =
+    Some (record { format = format; wanted = wanted_by coroutines only lines; script = script })
 
 abbrev pub format_in : List Row → Option Format
 format_in rows = format_for (format_of (first_of (codes "format") rows)) (first_of (codes "lines") rows)
 
+abbrev pub script_in : List Row → Bool
+script_in rows = script_of (first_of (codes "script") rows)
+
 -- by the values of the options
 abbrev pub asked_by : List Row → Option Asked
 asked_by rows =
-    asked_with (format_in rows) (range_or 0 (first_of (codes "coroutines") rows)) (only_of (first_of (codes "only") rows))
+    asked_with (script_in rows) (format_in rows) (range_or 0 (first_of (codes "coroutines") rows)) (only_of (first_of (codes "only") rows))
     (range_or 1 (first_of (codes "lines") rows))
 
 -- by the words, of which the first is the program's name

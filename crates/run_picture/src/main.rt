@@ -10,6 +10,10 @@
 mod outcome;
 mod process;
 mod reading;
+#[cfg(test)]
+mod rows;
+#[cfg(test)]
+mod tests;
 mod top;
 mod words;
 

@@ -4,6 +4,7 @@ ghost use Rattle.std.specs.Prelude.{◌≡◌};
 ghost use Rattle.std.specs.Process.{exit_status};
 ghost use Rattle.run_picture.specs.Outcomes.{is_large, message_of, message_of_shown, number_of};
 
+use run_explanation::ScriptFault;
 use std::process::ExitCode;
 use thiserror::Error;
 
@@ -25,8 +26,12 @@ pub enum Outcome {
     Drawn(Shown),
     /// The words are not those of a call.
     Refused,
+    /// What stands in front of the report is no script: its first line at fault.
+    NoScript(ScriptFault),
     /// The text is no report: the number of its first line that is none.
     NoReport(u32),
+    /// What stands behind the script is no report of it: the number of the first line that cannot be one.
+    NotOfScript(u32),
     /// The text is longer than a report may be.
     TooLong,
     /// The source failed; nothing was written.
@@ -46,10 +51,14 @@ pub enum Message {
     NotAll,
     #[error("no order was found that fits the lines: they stand as in the report; and only the first 64 coroutines are drawn")]
     NoOrderNotAll,
-    #[error("usage: run_picture [--format svg|mermaid|trace] [--coroutines A-B] [--only channels] [--lines A-B]")]
+    #[error("usage: run_picture [--format svg|mermaid|trace] [--coroutines A-B] [--only channels] [--lines A-B] [--script]")]
     Usage,
+    #[error("line {0}: no line of a script")]
+    NoScript(u32),
     #[error("line {0} is no line of a report")]
     NoReport(u32),
+    #[error("line {0}: no line of a report of this script")]
+    NotOfScript(u32),
     #[error("a report has at most 67108864 bytes")]
     TooLong,
     #[error("read fault")]
@@ -73,7 +82,10 @@ impl Outcome {
         match self {
             Outcome::Drawn(_) => 0,
             Outcome::Refused => 2,
-            Outcome::NoReport(_) | Outcome::TooLong => 3,
+            Outcome::NoScript(_) => 3,
+            Outcome::NoReport(_) => 3,
+            Outcome::NotOfScript(_) => 3,
+            Outcome::TooLong => 3,
             Outcome::ReadFault => 5,
             Outcome::WriteFault => 6,
             Outcome::NoMemory => 7,
@@ -87,7 +99,9 @@ impl Outcome {
         match self {
             Outcome::Drawn(shown) => message_of_shown(shown),
             Outcome::Refused => Some(Message::Usage),
+            Outcome::NoScript(fault) => Some(Message::NoScript(fault.line)),
             Outcome::NoReport(line) => Some(Message::NoReport(line)),
+            Outcome::NotOfScript(line) => Some(Message::NotOfScript(line)),
             Outcome::TooLong => Some(Message::TooLong),
             Outcome::ReadFault => Some(Message::ReadFault),
             Outcome::WriteFault => Some(Message::WriteFault),

@@ -1,17 +1,20 @@
 //! The whole call, over any source and sink.
 
-ghost use Rattle.std.specs.Prelude.{◌≡◌, ◌≤◌, nat_lt, IfOk, Some, length, map, string_bytes};
+ghost use Rattle.std.specs.Prelude.{◌≡◌, ◌≤◌, nat_lt, IfOk, Some, length, map, string_bytes, false, true};
 ghost use Rattle.report_reader.specs.Reading.{told_lines};
 ghost use Rattle.run_picture.specs.Words.{asked_of};
-ghost use Rattle.run_picture.specs.Outcomes.{IsMade, IsMadeOf, Depicts, IsWritten, Means, ShowsLines, Traces, stream};
+ghost use Rattle.run_picture.specs.Outcomes.{IsMade, IsMadeOf, IsMadeFor, Depicts, IsWritten, Means, ShowsLines, Traces, called, stream};
+ghost use Rattle.run_explanation.specs.Naming.{names_in};
 ghost use Rattle.run_picture.specs.declared.words.Format.TheVariants.{Mermaid, Svg};
 
 use crate::outcome::{Outcome, Shown};
 use crate::reading::read_report;
 use crate::words::{Asked, Format, asked_of};
 use co_base::{Memory, ReadError, Sink, Source, write_all};
+use picture_parts::Names;
 use report_picture::{Drawing, Wanted, draw, mermaid, svg, trace_of, trace_text};
 use report_reader::{Line, NoReport, read};
+use run_explanation::{Named, Unexplained, name_lines};
 use std::alloc::Global;
 
 /// A picture as a text, and how far it shows the report.
@@ -80,13 +83,25 @@ fn read_answer<S: Source>(alloc: Global, asked: Asked, source: &mut S) -> Result
     }
 }
 
-/// Makes the picture of a text, if it is a report.
-fn answer_of(alloc: Global, asked: Asked, bytes: &[u8]) -> Result<Answer, Outcome>
+/// Makes the picture of a text, if it is a report, or a script and a report of it.
+pub(crate) fn answer_of(alloc: Global, asked: Asked, bytes: &[u8]) -> Result<Answer, Outcome>
     requires { length bytes.now ≤ 67108864 }
     ensures { IsMadeOf asked bytes.now result }
 {
+    if asked.script {
+        named_answer(alloc, asked, bytes)
+    } else {
+        plain_answer(alloc, asked, bytes)
+    }
+}
+
+/// Makes the picture of a text, if it is a report.
+fn plain_answer(alloc: Global, asked: Asked, bytes: &[u8]) -> Result<Answer, Outcome>
+    requires { length bytes.now ≤ 67108864 }
+    ensures { IsMadeFor false asked bytes.now result }
+{
     match read(alloc, bytes) {
-        Ok(lines) => match picture_of(alloc, asked, lines.as_slice()) {
+        Ok(lines) => match picture_of(alloc, asked, Names::none(), lines.as_slice()) {
             Ok(answer) => Ok(answer),
             Err(_) => Err(Outcome::NoMemory),
         },
@@ -95,14 +110,49 @@ fn answer_of(alloc: Global, asked: Asked, bytes: &[u8]) -> Result<Answer, Outcom
     }
 }
 
+/// Makes the picture of a text, if it is a script and a report of it.
+fn named_answer(alloc: Global, asked: Asked, bytes: &[u8]) -> Result<Answer, Outcome>
+    requires { length bytes.now ≤ 67108864 }
+    ensures { IsMadeFor true asked bytes.now result }
+{
+    match name_lines(alloc, bytes) {
+        Ok(named) => match named_picture(alloc, asked, &named) {
+            Ok(answer) => Ok(answer),
+            Err(_) => Err(Outcome::NoMemory),
+        },
+        Err(Unexplained::NoScript(fault)) => Err(Outcome::NoScript(fault)),
+        Err(Unexplained::NoReport(line)) => Err(Outcome::NotOfScript(line)),
+        Err(Unexplained::Memory) => Err(Outcome::NoMemory),
+    }
+}
+
+/// Makes the picture of a report with the names of its script.
+fn named_picture(alloc: Global, asked: Asked, named: &Named) -> Result<Answer, Memory>
+    ensures { IfOk result (λ answer.
+        ShowsLines asked answer.shown (names_in named.now) (told_lines named.now.lines.items) answer.text.items) }
+{
+    let names = Names {
+        blocks: named.names.as_slice(),
+        sources: named.sources.as_slice(),
+    };
+    let answer = picture_of(alloc, asked, names, named.lines.as_slice())?;
+    Ok(answer)
+}
+
 /// Makes the picture of a report with these lines.
-fn picture_of(alloc: Global, asked: Asked, lines: &[Line]) -> Result<Answer, Memory>
-    ensures { IfOk result (λ answer. ShowsLines asked answer.shown (told_lines lines.now) answer.text.items) }
+fn picture_of<'a>(
+    alloc: Global,
+    asked: Asked,
+    names: Names<'a>,
+    lines: &[Line<'a>],
+) -> Result<Answer, Memory>
+    ensures { IfOk result (λ answer.
+        ShowsLines asked answer.shown (called names.entry) (told_lines lines.now) answer.text.items) }
 {
     match asked.format {
-        Format::Svg => drawn(alloc, asked.wanted, lines),
-        Format::Mermaid => diagram(alloc, asked.wanted, lines),
-        Format::Trace => traced(alloc, asked.wanted, lines),
+        Format::Svg => drawn(alloc, asked.wanted, names, lines),
+        Format::Mermaid => diagram(alloc, asked.wanted, names, lines),
+        Format::Trace => traced(alloc, asked.wanted, names, lines),
     }
 }
 
@@ -120,30 +170,45 @@ fn shown_by(drawing: &Drawing) -> Shown
 }
 
 /// A picture as an SVG document.
-fn drawn(alloc: Global, wanted: Wanted, lines: &[Line]) -> Result<Answer, Memory>
-    ensures { IfOk result (λ answer. Depicts Svg wanted answer.shown (told_lines lines.now) answer.text.items) }
+fn drawn<'a>(
+    alloc: Global,
+    wanted: Wanted,
+    names: Names<'a>,
+    lines: &[Line<'a>],
+) -> Result<Answer, Memory>
+    ensures { IfOk result (λ answer. Depicts Svg wanted answer.shown (called names.entry) (told_lines lines.now) answer.text.items) }
 {
-    let drawing = draw(alloc, wanted, lines)?;
+    let drawing = draw(alloc, wanted, names, lines)?;
     let text = svg(alloc, &drawing.picture)?;
     let shown = shown_by(&drawing);
     Ok(Answer { shown, text })
 }
 
 /// A picture as a sequence diagram.
-fn diagram(alloc: Global, wanted: Wanted, lines: &[Line]) -> Result<Answer, Memory>
-    ensures { IfOk result (λ answer. Depicts Mermaid wanted answer.shown (told_lines lines.now) answer.text.items) }
+fn diagram<'a>(
+    alloc: Global,
+    wanted: Wanted,
+    names: Names<'a>,
+    lines: &[Line<'a>],
+) -> Result<Answer, Memory>
+    ensures { IfOk result (λ answer. Depicts Mermaid wanted answer.shown (called names.entry) (told_lines lines.now) answer.text.items) }
 {
-    let drawing = draw(alloc, wanted, lines)?;
+    let drawing = draw(alloc, wanted, names, lines)?;
     let text = mermaid(alloc, &drawing.picture)?;
     let shown = shown_by(&drawing);
     Ok(Answer { shown, text })
 }
 
 /// A trace.
-fn traced(alloc: Global, wanted: Wanted, lines: &[Line]) -> Result<Answer, Memory>
-    ensures { IfOk result (λ answer. Traces wanted answer.shown (told_lines lines.now) answer.text.items) }
+fn traced<'a>(
+    alloc: Global,
+    wanted: Wanted,
+    names: Names<'a>,
+    lines: &[Line<'a>],
+) -> Result<Answer, Memory>
+    ensures { IfOk result (λ answer. Traces wanted answer.shown (called names.entry) (told_lines lines.now) answer.text.items) }
 {
-    let tracing = trace_of(alloc, wanted, lines)?;
+    let tracing = trace_of(alloc, wanted, names, lines)?;
     let text = trace_text(alloc, &tracing.trace)?;
     let shown = Shown {
         in_order: tracing.in_order,

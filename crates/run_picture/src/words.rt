@@ -3,10 +3,10 @@
 ghost use Rattle.std.specs.Prelude.{◌≡◌, ◌≢◌, IfOk, Some, false, map, option_map, string_bytes, true};
 ghost use lib.Chars.{codes};
 ghost use Rattle.clap.specs.Words.{app_of, first_of, found_of, is_simple_and_free, rows_of, rule_of};
-ghost use Rattle.run_picture.specs.Words.{asked_by, asked_of, format_for, format_in, format_of, matches_by, only_of, option, picture_line, range_between, range_of, range_or, wanted_by};
+ghost use Rattle.run_picture.specs.Words.{asked_by, asked_of, format_for, format_in, format_of, matches_by, only_of, option, picture_line, range_between, range_of, range_or, script_in, script_of, switch, wanted_by};
 
 use clap::error::ErrorKind;
-use clap::{Arg, ArgMatches, Error};
+use clap::{Arg, ArgAction, ArgMatches, Error};
 use co_base::Memory;
 use report_picture::Wanted;
 use report_reader::{cut_at, value_of};
@@ -32,6 +32,8 @@ pub struct Range {
 pub struct Asked {
     pub format: Format,
     pub wanted: Wanted,
+    /// A script stands in front of the report, with a line `report` between them.
+    pub script: bool,
 }
 
 /// What the words ask for, of which the first is the program's name.
@@ -63,6 +65,7 @@ fn asked_by(matches: &ArgMatches<'_>) -> Option<Asked>
     Some(Asked {
         format,
         wanted: wanted_by(coroutines, only_channels, lines),
+        script: script_in(matches),
     })
 }
 
@@ -80,7 +83,7 @@ fn wanted_by(coroutines: Range, only_channels: bool, lines: Range) -> Wanted
 
 // ---- the command line
 
-/// `run_picture [--format svg|mermaid|trace] [--coroutines A-B] [--only channels] [--lines A-B]`.
+/// `run_picture [--format svg|mermaid|trace] [--coroutines A-B] [--only channels] [--lines A-B] [--script]`.
 fn picture_line<'a>(alloc: Global) -> Result<clap::Command<'a>, Memory>
     ensures { IfOk result (λ line. app_of line ≡ picture_line) }
 {
@@ -88,7 +91,8 @@ fn picture_line<'a>(alloc: Global) -> Result<clap::Command<'a>, Memory>
         .arg(option(alloc, "format"))?
         .arg(option(alloc, "coroutines"))?
         .arg(option(alloc, "only"))?
-        .arg(option(alloc, "lines"))?;
+        .arg(option(alloc, "lines"))?
+        .arg(switch(alloc, "script"))?;
     Ok(line)
 }
 
@@ -98,6 +102,14 @@ fn option<'a>(alloc: Global, name: &'a str) -> Arg<'a>
     ensures local { result.global ≡ false }
 {
     Arg::new(alloc, name).long(name)
+}
+
+/// An option without a value.
+fn switch<'a>(alloc: Global, name: &'a str) -> Arg<'a>
+    ensures rule { rule_of result ≡ switch name.now }
+    ensures local { result.global ≡ false }
+{
+    Arg::new(alloc, name).long(name).action(ArgAction::SetTrue)
 }
 
 /// The matches of the words, if they have any.
@@ -180,6 +192,21 @@ fn only_of(word: Option<&str>) -> Option<bool>
     match word {
         Some(word) => { if word == "channels" { Some(true) } else { None } }
         None => Some(false),
+    }
+}
+
+fn script_in(matches: &ArgMatches<'_>) -> bool
+    ensures { result ≡ script_in (rows_of (found_of matches.now)) }
+{
+    script_of(matches.get_str("script"))
+}
+
+fn script_of(word: Option<&str>) -> bool
+    ensures { result ≡ script_of (option_map (λ w. w.now) word.entry) }
+{
+    match word {
+        Some(word) => word == "true",
+        None => false,
     }
 }
 

@@ -4,11 +4,13 @@ use Rattle.run_picture.proofs.words.picture_line.Goals as goal
 
 pub returns : goal.returns
 returns c =
-    c.in_ok-line.ensures.shape c.option-4.ensures.local
+    c.in_ok-line.ensures.shape c.switch.ensures.local
+    ∙ ap₂ with_rule
+    (c.in_ok-arg-4.ensures.shape (search rules)
     ∙ ap₂ with_rule
     (c.in_ok-arg-3.ensures.shape (search rules)
     ∙ ap₂ with_rule
     (c.in_ok-arg-2.ensures.shape (search rules)
     ∙ ap₂ with_rule (c.in_ok-arg.ensures.shape (search rules) ∙ ap₂ with_rule c.new.ensures.app c.option.ensures.rule)
     c.option-2.ensures.rule)
-    c.option-3.ensures.rule) c.option-4.ensures.rule
+    c.option-3.ensures.rule) c.option-4.ensures.rule) c.switch.ensures.rule

@@ -1,0 +1,12 @@
+use Rattle.std.proofs.Common.{codes}
+use Rattle.std.specs.Fmt.{decimal}
+use Rattle.picture_parts.specs.Members.{quoted}
+use Rattle.picture_parts.specs.Members.{field_text}
+use Rattle.picture_parts.proofs.Fields.{four_fields}
+use Rattle.picture_parts.proofs.members.push_arriving.Goals as goal
+
+pub returns : goal.returns
+returns c =
+    four_fields (field_text (codes "ph") (quoted (codes "f"))) (field_text (codes "bp") (quoted (codes "e")))
+    (field_text (codes "id") (decimal c.args.flow)) (field_text (codes "ts") (decimal c.args.at)) c.args.out.now.items _ _ _ _
+    c.in_ok-push_words.ensures c.in_ok-push_words-2.ensures c.in_ok-push_number.ensures c.in_ok-push_number-2.ensures

@@ -1,0 +1,12 @@
+use Rattle.std.proofs.Common.{codes}
+use Rattle.std.specs.Fmt.{decimal}
+use Rattle.picture_parts.specs.Members.{quoted}
+use Rattle.picture_parts.specs.Members.{field_text}
+use Rattle.picture_parts.proofs.Fields.{three_fields}
+use Rattle.picture_parts.proofs.members.push_slice.Goals as goal
+
+pub returns : goal.returns
+returns c =
+    three_fields (field_text (codes "ph") (quoted (codes "X"))) (field_text (codes "ts") (decimal c.args.from))
+    (field_text (codes "dur") (decimal c.args.lasts)) c.args.out.now.items _ _ _
+    c.in_ok-push_words.ensures c.in_ok-push_number.ensures c.in_ok-push_number-2.ensures

@@ -1,0 +1,5 @@
+pub mod LineWords
+pub mod Places
+pub mod Names
+pub mod Markup
+pub mod Members
