@@ -1,13 +1,14 @@
 -- One block more.
-use Rattle.std.proofs.Common.{◌≡◌, ℕ, ◌+◌, List, [], sym, subst}
+use Rattle.std.proofs.Common.{◌≡◌, ℕ, ◌+◌, List, [], ◌++◌, Option, sym, subst}
 use Rattle.script_grammar.specs.Programs.{Program}
-use Rattle.end_search.specs.Blocks.{AddsBlock, Blocks, no_block, one_more}
+use Rattle.end_search.specs.declared.wanted.Wanted.{Wanted}
+use Rattle.end_search.specs.Blocks.{Blocks, IsBlock, no_block, one_more}
 
-pub none_yet : (p : Program) (text : List ℕ) → text ≡ [] → Blocks p 0 text
-none_yet p text e = subst (Blocks p 0) (sym e) no_block
+pub none_yet : (p : Program) (wanted : Option Wanted) (text : List ℕ) → text ≡ [] → Blocks p wanted 0 text
+none_yet p wanted text e = subst (Blocks p wanted 0) (sym e) no_block
 
-pub added : (p : Program) (n number : ℕ) (text more : List ℕ) → Blocks p n text → number ≡ n + 1 → AddsBlock p number text more
-    → Blocks p number more
-added p n number text more before next adds =
-    subst (λ k. AddsBlock p k text more → Blocks p k more) (sym next)
-    (λ h. subst (Blocks p (n + 1)) (sym h.is_text) (one_more n text h.block before h.is_block)) adds
+pub added : (p : Program) (wanted : Option Wanted) (n number : ℕ) (text block more : List ℕ) → Blocks p wanted n text → number ≡ n + 1
+    → IsBlock p wanted number block → more ≡ text ++ block → Blocks p wanted number more
+added p wanted n number text block more before next is more_is =
+    subst (λ k. Blocks p wanted k more) (sym next)
+    (subst (Blocks p wanted (n + 1)) (sym more_is) (one_more n text block before (subst (λ k. IsBlock p wanted k block) next is)))

@@ -1,13 +1,14 @@
 //! What is printed of a search, and the report of one run.
 
-ghost use Rattle.std.specs.Prelude.{◌≡◌, ◌++◌, IfOk, IfSome, OnOk, string_bytes};
+ghost use Rattle.std.specs.Prelude.{◌≡◌, ◌<◌, ◌++◌, None, IfOk, IfSome, OnOk, string_bytes, true};
 ghost use Rattle.script_reader.specs.Scripts.{program_of};
-ghost use Rattle.end_search.specs.Blocks.{AddsBlock, Blocks, Explores, TellsOf, count_text};
+ghost use Rattle.end_search.specs.Blocks.{Blocks, Explores, Fits, TellsInOrder, TellsOf, count_text, does_suit};
 
-use crate::blocks::block_of;
-use crate::wanted::Wanted;
+use crate::blocks::{Shown, block_of};
+use crate::local::is_calm;
+use crate::wanted::{Tell, Wanted, does_suit};
 use crate::ways::{Search, Verdict, Way, Ways, find_ways};
-use co_base::{Gate, Memory, Tag};
+use co_base::{Gate, Memory, Sink, Tag};
 use engine_one::run_in_order;
 use job_model::End;
 use note_book::Notes;
@@ -19,6 +20,7 @@ use std::alloc::{AllocError, Global};
 #[derive(Clone, Copy)]
 pub struct Limit {
     pub wanted: Option<Wanted>,
+    pub tell: Tell,
     /// How many states are looked at, at most.
     pub states: u32,
 }
@@ -38,98 +40,145 @@ pub struct Report {
 }
 
 /// Looks for the ends of a script, of which this is the text, and prints each once, those of fewer polls first.
-pub fn explore<G: Gate>(
+///
+/// A long search says to `errors`, each 100,000 states, how far it is.
+pub fn explore<G: Gate, E: Sink>(
     alloc: Global,
     script: &Script,
     source: &[u8],
     limit: Limit,
     gate: &G,
+    errors: &mut E,
 ) -> Result<Explored, Memory>
-    ensures { IfOk result (λ explored. Explores (program_of script.now) explored.text.items) }
+    ensures { IfOk result (λ explored. Explores (program_of script.now) limit.wanted explored.verdict explored.text.items) }
 {
     let ends = match limit.wanted {
         Some(_) => 1,
         None => usize::MAX,
     };
-    let found = ways_found(alloc, script, source, limit, ends, gate)?;
-    let text = text_of(alloc, script, gate, &found)?;
-    Ok(Explored {
-        verdict: found.verdict,
-        text,
-    })
+    let found = ways_found(alloc, script, source, limit, ends, gate, errors)?;
+    let shown = Shown {
+        script,
+        source,
+        wanted: limit.wanted,
+    };
+    shown_of(alloc, shown, gate, &found)
 }
 
 /// The search itself.
-fn ways_found<G: Gate>(
+fn ways_found<G: Gate, E: Sink>(
     alloc: Global,
     script: &Script,
     source: &[u8],
     limit: Limit,
     ends: usize,
     gate: &G,
+    errors: &mut E,
 ) -> Result<Ways, Memory> {
     let search = Search {
         script,
         source,
         wanted: limit.wanted,
+        tell: limit.tell,
+        calm: is_calm(script),
         states: limit.states,
         ends,
     };
-    find_ways(alloc, search, gate)
+    find_ways(alloc, search, gate, errors)
 }
 
 /// What is printed of a search that came to this.
-fn text_of<G: Gate>(
+fn shown_of<G: Gate>(
     alloc: Global,
-    script: &Script,
+    shown: Shown,
     gate: &G,
     found: &Ways,
-) -> Result<Vec<u8>, Memory>
-    ensures { IfOk result (λ text. Explores (program_of script.now) text.items) }
+) -> Result<Explored, Memory>
+    ensures { IfOk result (λ explored. Explores (program_of shown.entry.script.now) shown.entry.wanted
+        explored.verdict explored.text.items) }
 {
-    let rest = rest_of(alloc, found)?;
     let mut text = Vec::new(alloc);
-    let count = push_blocks(alloc, &mut text, script, gate, found.ends.as_slice())?;
+    let count = push_blocks(alloc, &mut text, shown, gate, found.ends.as_slice())?;
+    let count = push_usual(alloc, &mut text, shown, gate, count)?;
+    let verdict = verdict_of(shown.wanted, found.verdict, count);
+    let rest = rest_of(alloc, found, verdict)?;
     push_last(alloc, &mut text, count, rest.as_str())?;
-    Ok(text)
+    Ok(Explored { verdict, text })
+}
+
+/// What is told of a search that came to this, of which so many ends are shown.
+fn verdict_of(wanted: Option<Wanted>, verdict: Verdict, count: u64) -> Verdict
+    requires { wanted ≡ None → 0 < count }
+    ensures { Fits wanted result count }
+{
+    if wanted.is_some() && count > 0 {
+        return Verdict::Found;
+    }
+    match verdict {
+        Verdict::Exhausted => Verdict::Exhausted,
+        Verdict::Found | Verdict::Cut => Verdict::Cut,
+    }
 }
 
 /// Adds a block for each end. The answer is how many they are.
 fn push_blocks<G: Gate>(
     alloc: Global,
     out: &mut Vec<u8>,
-    script: &Script,
+    shown: Shown,
     gate: &G,
     ends: &[Way],
 ) -> Result<u64, Memory>
-    requires { Blocks (program_of script.now) 0 out.old.items }
-    ensures { IfOk result (λ count. Blocks (program_of script.now) count out.new.items) }
+    requires { Blocks (program_of shown.script.now) shown.wanted 0 out.old.items }
+    ensures { IfOk result (λ count. Blocks (program_of shown.entry.script.now) shown.entry.wanted count out.new.items) }
 {
     let mut count = 0u64;
     for way in ends {
-        let Some(number) = count.checked_add(1) else {
-            return Ok(count);
-        };
-        push_block(alloc, out, script, gate, number, way)?;
-        count = number;
+        count = push_block(alloc, out, shown, gate, count, way.order.as_slice())?;
     }
     Ok(count)
 }
 
-/// Adds the block of the end with this number.
+/// Adds the end of one worker where all ends are looked for, and none is there.
+fn push_usual<G: Gate>(
+    alloc: Global,
+    out: &mut Vec<u8>,
+    shown: Shown,
+    gate: &G,
+    count: u64,
+) -> Result<u64, Memory>
+    requires { Blocks (program_of shown.script.now) shown.wanted count out.old.items }
+    ensures blocks { IfOk result (λ more. Blocks (program_of shown.entry.script.now) shown.entry.wanted more out.new.items) }
+    ensures some { IfOk result (λ more. shown.entry.wanted ≡ None → 0 < more) }
+{
+    if count == 0 && shown.wanted.is_none() {
+        return push_block(alloc, out, shown, gate, count, &[]);
+    }
+    Ok(count)
+}
+
+/// Adds the block of the end of a run in this order behind so many, if it is one that is looked for. The answer is how many they are then.
 fn push_block<G: Gate>(
     alloc: Global,
     out: &mut Vec<u8>,
-    script: &Script,
+    shown: Shown,
     gate: &G,
-    number: u64,
-    way: &Way,
-) -> Result<(), Memory>
-    ensures { OnOk result (AddsBlock (program_of script.now) number out.old.items out.new.items) }
+    count: u64,
+    order: &[Tag],
+) -> Result<u64, Memory>
+    requires { Blocks (program_of shown.script.now) shown.wanted count out.old.items }
+    ensures blocks { IfOk result (λ more. Blocks (program_of shown.entry.script.now) shown.entry.wanted more out.new.items) }
+    ensures some { IfOk result (λ more. shown.entry.wanted ≡ None → 0 < more) }
 {
-    let block = block_of(alloc, script, gate, number, way)?;
-    out.extend_from_slice(block.as_slice())?;
-    Ok(())
+    let Some(number) = count.checked_add(1) else {
+        return Ok(count);
+    };
+    match block_of(alloc, shown, gate, number, order)? {
+        Some(block) => {
+            out.extend_from_slice(block.as_slice())?;
+            Ok(number)
+        }
+        None => Ok(count),
+    }
 }
 
 /// Adds the last line.
@@ -163,9 +212,9 @@ fn push_count(out: &mut String, count: u64) -> Result<(), AllocError>
 }
 
 /// What the last line says of the search.
-fn rest_of(alloc: Global, found: &Ways) -> Result<String, Memory> {
+fn rest_of(alloc: Global, found: &Ways, verdict: Verdict) -> Result<String, Memory> {
     let mut out = String::new(alloc);
-    match found.verdict {
+    match verdict {
         Verdict::Exhausted => out.push_str("exhausted")?,
         Verdict::Found => out.push_str("found")?,
         Verdict::Cut => out.push_str("not exhausted")?,
@@ -173,28 +222,38 @@ fn rest_of(alloc: Global, found: &Ways) -> Result<String, Memory> {
     let states = found.states;
     let turns = found.turns;
     write!(out, ": {states} states, {turns} turns; ")?;
+    let sampled = found.sampled;
+    if sampled > 0 {
+        write!(out, "{sampled} by random orders, not shortest; ")?;
+    }
     out.push_str("one worker, any order\n")?;
     Ok(out)
 }
 
-/// The report of the end with this number, counted from 1, if there is one.
-pub fn report_of_end<G: Gate>(
+/// The report of the end with this number, counted from 1, of those that are looked for, if there is one. Says how far it is, as
+/// `explore`.
+pub fn report_of_end<G: Gate, E: Sink>(
     alloc: Global,
     script: &Script,
     source: &[u8],
     limit: Limit,
     number: u32,
     gate: &G,
+    errors: &mut E,
 ) -> Result<Option<Report>, Memory>
-    ensures { IfOk result (λ report. IfSome report (TellsOf (program_of script.now))) }
+    ensures tells { IfOk result (λ report. IfSome report (TellsOf (program_of script.now))) }
+    ensures suits { IfOk result (λ report. IfSome report (λ told. does_suit limit.wanted told.root ≡ true)) }
 {
     let Some(place) = (number as usize).checked_sub(1) else {
         return Ok(None);
     };
-    let found = ways_found(alloc, script, source, limit, number as usize, gate)?;
+    let found = ways_found(alloc, script, source, limit, number as usize, gate, errors)?;
     match found.ends.get(place) {
         Some(way) => {
             let report = report_in_order(alloc, script, way.order.as_slice(), gate)?;
+            if !does_suit(limit.wanted, report.root) {
+                return Ok(None);
+            }
             Ok(Some(report))
         }
         None => Ok(None),
@@ -208,7 +267,8 @@ pub fn report_in_order<G: Gate>(
     order: &[Tag],
     gate: &G,
 ) -> Result<Report, Memory>
-    ensures { IfOk result (TellsOf (program_of script.now)) }
+    ensures tells { IfOk result (TellsOf (program_of script.now)) }
+    ensures made { IfOk result (TellsInOrder (program_of script.now) order.now) }
 {
     let left = run_in_order::<Notes, G>(alloc, script, gate, order)?;
     let text = report(alloc, script, &left.done)?;

@@ -1,77 +1,114 @@
 //! What is printed of an end.
 
-ghost use Rattle.std.specs.Prelude.{◌≡◌, ◌++◌, IfOk, OnOk, string_bytes};
+ghost use Rattle.std.specs.Prelude.{◌≡◌, ◌++◌, IfOk, IfSome, OnOk, None, is_some, length, string_bytes, true};
 ghost use lib.Chars.{codes};
+ghost use Rattle.std.specs.List.{flat_map};
 ghost use Rattle.std.specs.Fmt.{decimal};
 ghost use Rattle.note_book.specs.Books.{notes_of};
 ghost use Rattle.script_reader.specs.Scripts.{program_of};
-ghost use Rattle.engine_one.specs.Runs.{CameToRest};
-ghost use Rattle.end_search.specs.Blocks.{IsBlock, head_text, status_text};
+ghost use Rattle.engine_one.specs.Runs.{CameToRest, WasMadeInOrder};
+ghost use Rattle.end_search.specs.Blocks.{AreWaits, IsBlock, does_suit, head_text, order_text, status_text, tag_part, tags_text, too_long_text};
 
-use crate::ways::Way;
+use crate::refusals::refused_sends;
+use crate::wanted::{Wanted, does_suit};
 use co_base::{Gate, Memory, Tag};
 use engine_one::{ListRun, run_in_order};
 use job_model::End;
 use note_book::Notes;
-use run_report::ends_of;
+use run_explanation::explain_waits;
+use run_report::{ends_of, report};
 use script_reader::Script;
 use std::alloc::{AllocError, Global};
 
-/// What is printed of the end with this number: a run in its order is made, and read.
-pub(crate) fn block_of<G: Gate>(
-    alloc: Global,
-    script: &Script,
-    gate: &G,
-    number: u64,
-    way: &Way,
-) -> Result<Vec<u8>, Memory>
-    ensures { IfOk result (λ block. IsBlock (program_of script.now) number block.items) }
-{
-    let run = run_in_order::<Notes, G>(alloc, script, gate, way.order.as_slice())?;
-    told_of_run(alloc, script, number, way, &run)
+/// Of what an end is printed.
+#[derive(Clone, Copy)]
+pub(crate) struct Shown<'a> {
+    pub(crate) script: &'a Script,
+    /// The text of the script.
+    pub(crate) source: &'a [u8],
+    /// Which ends are looked for, if not all.
+    pub(crate) wanted: Option<Wanted>,
 }
 
-/// The same of a run that was made.
+/// What is printed of the end with this number: a run in its order is made, and read. Nothing, if it is none that is looked for.
+pub(crate) fn block_of<G: Gate>(
+    alloc: Global,
+    shown: Shown,
+    gate: &G,
+    number: u64,
+    order: &[Tag],
+) -> Result<Option<Vec<u8>>, Memory>
+    ensures block { IfOk result (λ found. IfSome found (λ block.
+        IsBlock (program_of shown.entry.script.now) shown.entry.wanted number block.items)) }
+    ensures some { IfOk result (λ found. shown.entry.wanted ≡ None → is_some found ≡ true) }
+{
+    let run = run_in_order::<Notes, G>(alloc, shown.script, gate, order)?;
+    if !does_suit(shown.wanted, run.done.end) {
+        return Ok(None);
+    }
+    let block = told_of_run(alloc, shown, number, order, &run)?;
+    Ok(Some(block))
+}
+
+/// The same of a run that was made, and is looked for.
 fn told_of_run(
     alloc: Global,
-    script: &Script,
+    shown: Shown,
     number: u64,
-    way: &Way,
+    order: &[Tag],
     run: &ListRun<Notes>,
 ) -> Result<Vec<u8>, Memory>
-    requires { CameToRest notes_of (program_of script.now) run.now }
-    ensures { IfOk result (λ block. IsBlock (program_of script.now) number block.items) }
+    requires rest { CameToRest notes_of (program_of shown.script.now) run.now }
+    requires made { WasMadeInOrder notes_of (program_of shown.script.now) order.now run.now }
+    requires suits { does_suit shown.wanted run.now.done.end ≡ true }
+    ensures { IfOk result (λ block. IsBlock (program_of shown.entry.script.now) shown.entry.wanted number block.items) }
 {
-    let ends = ends_of(alloc, script, run.done.books.as_slice())?;
-    let order = order_text(alloc, way.order.as_slice())?;
-    let block = joined(
-        alloc,
-        number,
-        run.done.end,
-        way.names.as_str(),
-        ends.as_str(),
-        order.as_str(),
-    )?;
+    let script = shown.script;
+    let books = run.done.books.as_slice();
+    let told = report(alloc, script, &run.done)?;
+    let waits = waits_in(alloc, script, shown.source, told.as_slice())?;
+    let refused = refused_sends(alloc, script, books)?;
+    let ends = ends_of(alloc, script, books)?;
+    let order = order_text(alloc, order)?;
+    let mut block = head_text(alloc, number, run.done.end)?;
+    block.extend_from_slice(waits.as_slice())?;
+    block.extend_from_slice(refused.as_bytes())?;
+    block.extend_from_slice(ends.as_bytes())?;
+    block.extend_from_slice(order.as_bytes())?;
     Ok(block)
 }
 
-/// The parts of a block, one behind the other.
-fn joined(
+/// The lines of the coroutines that a report leaves waiting, or that it is too long to be explained.
+pub(crate) fn waits_in(
     alloc: Global,
-    number: u64,
-    root: Option<End>,
-    names: &str,
-    last: &str,
-    order: &str,
-) -> Result<Vec<u8>, Memory>
-    ensures { IfOk result (λ block. block.items ≡ ((head_text number root ++ names.now) ++ last.now) ++ order.now) }
+    script: &Script,
+    source: &[u8],
+    report: &[u8],
+) -> Result<Vec<u8>, AllocError>
+    ensures { IfOk result (λ text. AreWaits (program_of script.now) report.now text.items) }
+{
+    if report.len() > 67108864 {
+        return too_long_text(alloc);
+    }
+    let text = explain_waits(alloc, script, source, report)?;
+    Ok(text)
+}
+
+fn too_long_text(alloc: Global) -> Result<Vec<u8>, AllocError>
+    ensures { IfOk result (λ text. text.items ≡ too_long_text) }
+{
+    let mut text = String::new(alloc);
+    text.push_str("  who waits is not told: the report has more than 67108864 bytes\n")?;
+    Ok(text.into_bytes())
+}
+
+/// The first line.
+fn head_text(alloc: Global, number: u64, root: Option<End>) -> Result<Vec<u8>, AllocError>
+    ensures { IfOk result (λ text. text.items ≡ head_text number root) }
 {
     let mut head = String::new(alloc);
     push_number(&mut head, number)?;
     push_status(&mut head, root)?;
-    head.push_str(names)?;
-    head.push_str(last)?;
-    head.push_str(order)?;
     Ok(head.into_bytes())
 }
 
@@ -94,16 +131,38 @@ fn push_status(out: &mut String, root: Option<End>) -> Result<(), AllocError>
 }
 
 /// The line of an order, and an empty line.
-fn order_text(alloc: Global, order: &[Tag]) -> Result<String, Memory> {
+fn order_text(alloc: Global, order: &[Tag]) -> Result<String, AllocError>
+    ensures { IfOk result (λ text. string_bytes text ≡ order_text order.now) }
+{
     let mut out = String::new(alloc);
     let turns = order.len();
     write!(out, "turns {turns}: ")?;
-    for (i, tag) in order.iter().enumerate() {
-        if i > 0 {
-            out.push_str(",")?;
-        }
-        write!(out, "{tag}")?;
-    }
+    push_tags(&mut out, order)?;
     out.push_str("\n\n")?;
     Ok(out)
+}
+
+/// Adds tags with commas between them.
+fn push_tags(out: &mut String, order: &[Tag]) -> Result<(), AllocError>
+    ensures { OnOk result (string_bytes out.new ≡ string_bytes out.old ++ tags_text order.now) }
+{
+    match order {
+        [] => Ok(()),
+        [first, more @ ..] => {
+            write!(out, "{first}")?;
+            push_further(out, more)
+        }
+    }
+}
+
+/// Adds tags, each behind a comma.
+fn push_further(out: &mut String, order: &[Tag]) -> Result<(), AllocError>
+    ensures { OnOk result (string_bytes out.new ≡ string_bytes out.old ++ flat_map tag_part order.now) }
+{
+    let mut rest = order;
+    while let [tag, more @ ..] = rest {
+        write!(out, ",{tag}")?;
+        rest = more;
+    }
+    Ok(())
 }

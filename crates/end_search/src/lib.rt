@@ -3,14 +3,14 @@
 //! The search is not trusted, and nothing is claimed of it but that it is safe and returns: it decides which orders are worth a run. What
 //! is printed of an end is read from a run of the script.
 //!
-//! - `waits`: the wait in which a book leaves its coroutine.
-//! - `histories`: what a coroutine was answered, as numbers.
+//! - `reads`: which coroutines read what they received.
 //! - `losses`: what was lost.
 //! - `keys`: a state of a run as numbers.
 //! - `states`: the states that were seen, and how each was reached.
-//! - `lines`: the lines of a script's text.
-//! - `waiting`: who waits where, in words.
+//! - `refusals`: the lines of sends that closed channels refused.
 //! - `wanted`: which ends are looked for, and by what two ends are told apart.
+//! - `local`: polls that no other coroutine can hinder.
+//! - `samples`: runs in random orders.
 //! - `ways`: the search.
 //! - `blocks`: what is printed of an end.
 //! - `answers`: what is printed of a search; the report of one run.
@@ -18,16 +18,16 @@
 
 mod answers;
 mod blocks;
-mod histories;
 mod keys;
-mod lines;
+mod local;
 mod losses;
+mod reads;
+mod refusals;
+mod samples;
 mod states;
-mod waiting;
-mod waits;
 mod wanted;
 mod ways;
 
 pub use answers::{Explored, Limit, Report, explore, report_in_order, report_of_end};
-pub use wanted::Wanted;
+pub use wanted::{Tell, Wanted};
 pub use ways::Verdict;

@@ -1,37 +1,42 @@
 //! What was lost: elements that nobody will receive, and sends that a closed channel refused.
 
 use channel_model::{Act, ChannelNote, Settled};
-use co_base::{Memory, WaitId};
+use co_base::{ChannelId, Memory, Value, WaitId};
+use engine_one::Trial;
 use note_book::{Item, Notes};
 use std::alloc::Global;
 
 #[derive(Clone, Copy)]
-pub(crate) struct Loss {
-    pub(crate) how: Lost,
-    pub(crate) channel: u16,
-    pub(crate) value: u32,
+struct Loss {
+    how: Lost,
+    channel: ChannelId,
+    value: Value,
 }
 
 #[derive(Clone, Copy)]
-pub(crate) enum Lost {
+enum Lost {
     Undelivered,
     Dropped,
     Spurned,
     Refused,
+    Withdrawn,
 }
 
-/// Adds the losses that the books tell of, in an order that does not depend on that of the books.
+/// Adds the losses that the books of so many coroutines tell of, in an order that does not depend on that of the books.
 pub(crate) fn push_losses(
     alloc: Global,
     key: &mut Vec<u64>,
-    books: &[Notes],
+    trial: &Trial<Notes>,
+    coroutines: usize,
 ) -> Result<(), Memory> {
     let mut losses = Vec::new(alloc);
-    for book in books {
-        let items = book.items();
-        for item in items {
-            if let Some(loss) = loss_of(items, *item) {
-                losses.push(number_of(loss))?;
+    for tag in 0..coroutines {
+        if let Some(book) = trial.book(tag) {
+            let items = book.items();
+            for item in items {
+                if let Some(loss) = loss_of(trial, items, *item) {
+                    losses.push(number_of(loss))?;
+                }
             }
         }
     }
@@ -48,15 +53,16 @@ fn number_of(loss: Loss) -> u64 {
         Lost::Dropped => 281474976710656,
         Lost::Spurned => 562949953421312,
         Lost::Refused => 844424930131968,
+        Lost::Withdrawn => 1125899906842624,
     };
     how.saturating_add(u64::from(loss.channel).saturating_mul(4294967296))
         .saturating_add(u64::from(loss.value))
 }
 
 /// The loss that an item of these tells of.
-pub(crate) fn loss_of(items: &[Item], item: Item) -> Option<Loss> {
+fn loss_of(trial: &Trial<Notes>, items: &[Item], item: Item) -> Option<Loss> {
     match item {
-        Item::Channel(ChannelNote::Made(act)) => loss_by(items, act),
+        Item::Channel(ChannelNote::Made(act)) => loss_by(trial, items, act),
         Item::Channel(ChannelNote::SendClosed { c, value, .. })
         | Item::Channel(ChannelNote::TrySendClosed { c, value, .. }) => {
             some_loss(Lost::Refused, c, value)
@@ -65,7 +71,7 @@ pub(crate) fn loss_of(items: &[Item], item: Item) -> Option<Loss> {
     }
 }
 
-fn some_loss(how: Lost, channel: u16, value: u32) -> Option<Loss> {
+fn some_loss(how: Lost, channel: ChannelId, value: Value) -> Option<Loss> {
     Some(Loss {
         how,
         channel,
@@ -73,7 +79,7 @@ fn some_loss(how: Lost, channel: u16, value: u32) -> Option<Loss> {
     })
 }
 
-fn loss_by(items: &[Item], act: Act) -> Option<Loss> {
+fn loss_by(trial: &Trial<Notes>, items: &[Item], act: Act) -> Option<Loss> {
     match act {
         Act::Drain { c, value, .. } => some_loss(Lost::Undelivered, c, value),
         Act::Drop { c, value, .. } => some_loss(Lost::Dropped, c, value),
@@ -81,14 +87,27 @@ fn loss_by(items: &[Item], act: Act) -> Option<Loss> {
         Act::Settle {
             w,
             outcome: Settled::Undelivered(value),
-        } => some_loss(Lost::Undelivered, w.channel, value),
+        } => some_loss(Lost::Undelivered, channel_of(trial, items, w), value),
         Act::Withdraw { w, .. } => some_loss(Lost::Undelivered, w.channel, offered_by(items, w)?),
+        Act::Offer {
+            c,
+            value,
+            main,
+            clause,
+            ..
+        } => {
+            if clause > 0 && is_over(items, main) && trial.clause_of(main) != Some(clause) {
+                some_loss(Lost::Withdrawn, c, value)
+            } else {
+                None
+            }
+        }
         _ => None,
     }
 }
 
 /// The element of the plain send that began this wait.
-fn offered_by(items: &[Item], w: WaitId) -> Option<u32> {
+fn offered_by(items: &[Item], w: WaitId) -> Option<Value> {
     for item in items {
         if let Item::Channel(
             ChannelNote::Made(
@@ -107,4 +126,42 @@ fn offered_by(items: &[Item], w: WaitId) -> Option<u32> {
         }
     }
     None
+}
+
+/// The channel at which this wait was resolved.
+fn channel_of(trial: &Trial<Notes>, items: &[Item], w: WaitId) -> ChannelId {
+    let chosen = trial.clause_of(w);
+    for item in items {
+        if let Item::Channel(
+            ChannelNote::Made(
+                Act::Await {
+                    c,
+                    main,
+                    clause,
+                    ..
+                },
+            ),
+        ) = *item
+        {
+            if main == w && Some(clause) == chosen {
+                return c;
+            }
+        }
+    }
+    w.channel
+}
+
+/// Whether its coroutine has ended this wait.
+fn is_over(items: &[Item], wait: WaitId) -> bool {
+    for item in items {
+        if let Item::Channel(
+            ChannelNote::Made(Act::Settle { w, .. } | Act::Withdraw { w, .. }),
+        ) = *item
+        {
+            if w == wait {
+                return true;
+            }
+        }
+    }
+    false
 }

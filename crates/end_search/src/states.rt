@@ -2,14 +2,21 @@
 
 use co_base::{Memory, Tag};
 use std::alloc::Global;
-use std::collections::BTreeMap;
 
-/// The states, numbered in the order in which they were first reached. The first is that before any poll.
+/// How many places a table of states has at first. It is a power of two, as each later number of them.
+const PLACES: usize = 1024;
+
+/// The states, numbered in the order in which they were first reached. The first is that before any poll, which has no key.
+///
+/// The keys stand one behind another. A state of so many is found by a table of numbers, at the place that the hash of its key names, or
+/// the next free one; half of the places are free at least.
 #[derive(Drop)]
 pub(crate) struct States {
-    /// How each was reached: from which state, by a poll of which coroutine.
+    /// How each was reached: from which state, by a poll of which coroutine; and where its key ends.
     steps: Vec<Step>,
-    keys: BTreeMap<Vec<u8>, ()>,
+    keys: Vec<u8>,
+    /// At each place the number of a state, or 0.
+    places: Vec<u32>,
     most: usize,
     /// Whether a state was left out, as one too many.
     pub(crate) full: bool,
@@ -19,18 +26,31 @@ pub(crate) struct States {
 
 #[derive(Clone, Copy)]
 struct Step {
-    from: usize,
+    key_end: usize,
+    from: u32,
     tag: Tag,
 }
 
+/// Where a key stands in the table: at a state that has it, or at a place that is free for it.
+#[derive(Clone, Copy)]
+enum Found {
+    Seen,
+    Free(usize),
+}
+
 impl States {
-    pub(crate) fn new(alloc: Global, most: usize) -> Result<States, Memory> {
+    pub(crate) fn new(alloc: Global, most: u32) -> Result<States, Memory> {
         let mut steps = Vec::new(alloc);
-        steps.push(Step { from: 0, tag: 0 })?;
+        steps.push(Step {
+            key_end: 0,
+            from: 0,
+            tag: 0,
+        })?;
         Ok(States {
             steps,
-            keys: BTreeMap::new(alloc),
-            most,
+            keys: Vec::new(alloc),
+            places: vec![in alloc; 0u32; PLACES]?,
+            most: most as usize,
             full: false,
             turns: 0,
         })
@@ -41,29 +61,99 @@ impl States {
     }
 
     /// Adds the state with this key, if it is new, which a poll of a coroutine led to.
-    pub(crate) fn add(&mut self, from: usize, tag: Tag, key: Vec<u8>) -> Result<(), Memory> {
+    pub(crate) fn add(&mut self, from: u32, tag: Tag, key: &[u8]) -> Result<(), Memory> {
         self.turns = self.turns.saturating_add(1);
-        if self.keys.contains_key(&key) {
+        let Found::Free(place) = self.place_of(key) else {
             return Ok(());
-        }
-        if self.steps.len() >= self.most {
+        };
+        let Some(number) = self.next_number() else {
             self.full = true;
             return Ok(());
+        };
+        self.keys.extend_from_slice(key)?;
+        self.steps.push(Step {
+            key_end: self.keys.len(),
+            from,
+            tag,
+        })?;
+        self.put(place, number);
+        if self.steps.len() > self.places.len() / 2 {
+            self.grow()?;
         }
-        self.keys.insert(key, ())?;
-        self.steps.push(Step { from, tag })?;
+        Ok(())
+    }
+
+    /// The number of the next state, if there may be one more.
+    fn next_number(&self) -> Option<u32> {
+        if self.steps.len() >= self.most {
+            return None;
+        }
+        u32::try_from(self.steps.len()).ok()
+    }
+
+    /// Where a state with this key stands, or may stand.
+    fn place_of(&self, key: &[u8]) -> Found {
+        let mask = self.places.len().saturating_sub(1);
+        let mut place = hash_of(key) as usize & mask;
+        for _ in 0..self.places.len() {
+            match self.places.get(place).copied() {
+                None | Some(0) => return Found::Free(place),
+                Some(number) => {
+                    if self.key_of(number as usize) == key {
+                        return Found::Seen;
+                    }
+                }
+            }
+            place = place.wrapping_add(1) & mask;
+        }
+        Found::Free(0)
+    }
+
+    /// Puts the number of a state at a place of the table.
+    fn put(&mut self, place: usize, number: u32) {
+        if let Some(here) = self.places.get_mut(place) {
+            *here = number;
+        }
+    }
+
+    /// The key of a state.
+    fn key_of(&self, state: usize) -> &[u8] {
+        let start = match self.steps.get(state.saturating_sub(1)) {
+            Some(step) => step.key_end,
+            None => 0,
+        };
+        let end = match self.steps.get(state) {
+            Some(step) => step.key_end,
+            None => 0,
+        };
+        self.keys.get(start..end).unwrap_or(&[])
+    }
+
+    /// Doubles the places.
+    #[cold]
+    #[inline(never)]
+    fn grow(&mut self) -> Result<(), Memory> {
+        let alloc = *self.places.allocator();
+        let count = self.places.len().saturating_mul(2);
+        self.places = vec![in alloc; 0u32; count]?;
+        for state in 1..self.steps.len() {
+            let number = u32::try_from(state).ok().unwrap_or(0);
+            if let Found::Free(place) = self.place_of(self.key_of(state)) {
+                self.put(place, number);
+            }
+        }
         Ok(())
     }
 
     /// The polls by which a state was first reached, in their order.
-    pub(crate) fn order_of(&self, alloc: Global, state: usize) -> Result<Vec<Tag>, Memory> {
+    pub(crate) fn order_of(&self, alloc: Global, state: u32) -> Result<Vec<Tag>, Memory> {
         let mut order = Vec::new(alloc);
         let mut at = state;
         for _ in 0..self.steps.len() {
             if at == 0 {
                 break;
             }
-            let Some(step) = self.steps.get(at) else {
+            let Some(step) = self.steps.get(at as usize) else {
                 break;
             };
             order.push(step.tag)?;
@@ -72,4 +162,13 @@ impl States {
         order.reverse();
         Ok(order)
     }
+}
+
+/// A number that differs for most keys that differ.
+fn hash_of(key: &[u8]) -> u64 {
+    let mut hash = 14695981039346656037u64;
+    for byte in key {
+        hash = (hash ^ u64::from(*byte)).wrapping_mul(1099511628211);
+    }
+    hash ^ (hash >> 32)
 }

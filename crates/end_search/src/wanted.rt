@@ -1,6 +1,10 @@
 //! Which ends are looked for, and by what two ends are told apart.
 
-use crate::losses::{Lost, loss_of};
+ghost use Rattle.std.specs.Prelude.{◌≡◌};
+ghost use Rattle.end_search.specs.Blocks.{does_suit, is_cancelled, is_failed};
+
+use crate::blocks::waits_in;
+use crate::refusals::refused_sends;
 use co_base::Memory;
 use job_model::{Cause, End};
 use note_book::Notes;
@@ -29,24 +33,63 @@ pub enum Wanted {
     Other,
 }
 
+/// By what two ends are told apart.
+#[derive(Clone, Copy, Debug, PartialEq, Eq)]
+pub enum Tell {
+    /// By main's Job.
+    Status,
+    /// By all Jobs.
+    Jobs,
+    /// By Jobs, elements, refused sends and who waits at which line.
+    All,
+}
+
+impl Tell {
+    /// Whether ends are told apart by a line like this.
+    fn is_told(self, line: &[u8]) -> bool {
+        match self {
+            Tell::Status => line.starts_with(b"job 0 "),
+            Tell::Jobs => line.starts_with(b"job "),
+            Tell::All => true,
+        }
+    }
+}
+
 /// What is told of an end, without the numbers of places, so that it is the same by whatever order the end was reached.
 #[derive(Drop)]
 pub(crate) struct Told {
     root: Option<End>,
-    /// The lines of Jobs, of elements and of refused sends, sorted.
-    pub(crate) lines: Vec<Vec<u8>>,
+    /// The lines of Jobs, of elements, of coroutines that wait and of refused sends, sorted.
+    lines: Vec<Vec<u8>>,
+    /// Those of them by which it is told apart from another.
+    apart: Vec<Vec<u8>>,
 }
 
-pub(crate) fn told_of(alloc: Global, script: &Script, done: &Done<Notes>) -> Result<Told, Memory> {
+pub(crate) fn told_of(
+    alloc: Global,
+    script: &Script,
+    source: &[u8],
+    tell: Tell,
+    done: &Done<Notes>,
+) -> Result<Told, Memory> {
     let mut lines = Vec::new(alloc);
     let text = report(alloc, script, done)?;
     push_ends(alloc, &mut lines, text.as_slice())?;
+    let waits = waits_in(alloc, script, source, text.as_slice())?;
+    push_ends(alloc, &mut lines, waits.as_slice())?;
     let refused = refused_sends(alloc, script, done.books.as_slice())?;
     push_ends(alloc, &mut lines, refused.as_bytes())?;
     lines.sort()?;
+    let mut apart = Vec::new(alloc);
+    for line in lines.as_slice() {
+        if tell.is_told(line.as_slice()) {
+            apart.push(Vec::from_slice(alloc, line.as_slice())?)?;
+        }
+    }
     Ok(Told {
         root: done.end,
         lines,
+        apart,
     })
 }
 
@@ -83,51 +126,38 @@ fn without_place(alloc: Global, line: &[u8]) -> Result<Vec<u8>, Memory> {
     Ok(text)
 }
 
-/// A line for each send that a closed channel refused: the channel and the value.
-pub(crate) fn refused_sends(
-    alloc: Global,
-    script: &Script,
-    books: &[Notes],
-) -> Result<String, Memory> {
-    let mut out = String::new(alloc);
-    for book in books {
-        let items = book.items();
-        for item in items {
-            if let Some(loss) = loss_of(items, *item) {
-                if let Lost::Refused = loss.how {
-                    push_refused(&mut out, script, loss.channel as usize, loss.value)?;
-                }
-            }
-        }
+/// Whether an end with this root is one that is looked for, as far as its root says.
+pub(crate) fn does_suit(wanted: Option<Wanted>, root: Option<End>) -> bool
+    ensures { result ≡ does_suit wanted root }
+{
+    match wanted {
+        Some(Wanted::Unfinished) => root.is_none(),
+        Some(Wanted::Failed) => is_failed(root),
+        Some(Wanted::Cancelled) => is_cancelled(root),
+        _ => true,
     }
-    Ok(out)
 }
 
-fn push_refused(
-    out: &mut String,
-    script: &Script,
-    channel: usize,
-    value: u32,
-) -> Result<(), Memory> {
-    if let Some(declared) = script.channels().get(channel) {
-        out.push_str("  refused ")?;
-        out.push_str(declared.name.as_str())?;
-        write!(out, " {value}\n")?;
-    }
-    Ok(())
+/// Whether the root was cancelled by a failure.
+fn is_failed(root: Option<End>) -> bool
+    ensures { result ≡ is_failed root }
+{
+    matches!(root, Some(End::Cancelled(Cause::Failure(_))))
+}
+
+/// Whether it was cancelled for another reason.
+fn is_cancelled(root: Option<End>) -> bool
+    ensures { result ≡ is_cancelled root }
+{
+    matches!(root, Some(End::Cancelled(Cause::Request | Cause::None)))
 }
 
 impl Told {
     /// Whether this is an end that is looked for. `usual` is that of one worker.
     pub(crate) fn is(&self, wanted: Wanted, usual: &Told) -> bool {
         match wanted {
-            Wanted::Unfinished => self.root.is_none(),
-            Wanted::Failed => { matches!(self.root, Some(End::Cancelled(Cause::Failure(_)))) }
-            Wanted::Cancelled => {
-                matches!(
-                    self.root,
-                    Some(End::Cancelled(Cause::Request | Cause::None))
-                )
+            Wanted::Unfinished | Wanted::Failed | Wanted::Cancelled => {
+                does_suit(Some(wanted), self.root)
             }
             Wanted::Undelivered => self.has_line(b"element ", b" undelivered"),
             Wanted::Held => self.has_line(b"element ", b" held"),
@@ -137,7 +167,7 @@ impl Told {
     }
 
     pub(crate) fn is_same(&self, other: &Told) -> bool {
-        self.lines == other.lines
+        self.apart == other.apart
     }
 
     fn has_line(&self, front: &[u8], back: &[u8]) -> bool {

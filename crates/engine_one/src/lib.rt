@@ -9,20 +9,20 @@
 //! - `run`: a whole run, and its turns.
 //! - `turns`: polls of one coroutine, and of all.
 //! - `ready_tags`: who is to be polled next.
-//! - `midway`: a run between two polls, to be looked at.
+//! - `trial`: a run that a search begins again and again, and looks at between two polls.
 //! - `locked`: a whole run by several workers.
 //! - `shared`: what they share, under a lock.
 #![tactic(auto)]
 
 mod locked;
-mod midway;
 mod ready_tags;
 mod run;
 mod shared;
 mod start;
 mod state;
+mod trial;
 mod turns;
 
 pub use locked::run_locked;
-pub use midway::{Midway, Polled, run_midway};
 pub use run::{ListRun, run_in_order, run_one};
+pub use trial::{Polled, Trial};

@@ -2,8 +2,9 @@
 
 ghost use Rattle.std.specs.Prelude.{◌≡◌, [], IfOk, OnOk};
 ghost use Rattle.script_reader.specs.Scripts.{program_of};
-ghost use Rattle.engine_one.specs.Runs.{CameToRest, TellsIdle};
-ghost use Rattle.engine_one.specs.Moments.{list_moment, RunStands, RunIsOver};
+ghost use Rattle.engine_one.specs.Runs.{CameToRest, IsLeftOf, TellsIdle, WasMadeInOrder};
+ghost use Rattle.engine_one.specs.Moments.{list_moment, state_of, RunStands, RunIsOver};
+ghost use Rattle.engine_one.specs.Orders.{AreTurns, InOrder, IsTurn};
 ghost use Rattle.engine_one.specs.Progress.{LeftWhere, RoundIsCalm, TurnsFall};
 
 use crate::start::start;
@@ -48,7 +49,7 @@ pub fn run_one<B: Book, G: Gate>(
 /// A tag may stand in the order any number of times, whether or not its coroutine can go on; one past the last coroutine is passed over.
 ///
 /// The books are those of a run with these two histories, which came to rest; nobody can go on. Both histories have one order: that of
-/// the polls.
+/// the polls, of which the first are those of the order, each of them whole.
 pub fn run_in_order<B: Book, G: Gate>(
     alloc: Global,
     script: &Script,
@@ -57,6 +58,7 @@ pub fn run_in_order<B: Book, G: Gate>(
 ) -> Result<ListRun<B>, Memory>
     ensures run { IfOk result (λ run. CameToRest B.items (program_of script.now) run) }
     ensures idle { IfOk result (λ run. TellsIdle run) }
+    ensures made { IfOk result (λ run. WasMadeInOrder B.items (program_of script.now) order.now run) }
 {
     let mut run = start(alloc, script)?;
     run.poll_in_order(script, gate, order)?;
@@ -74,6 +76,7 @@ pub(crate) fn run_left<B: Book>(
     requires left { RunIsOver (list_moment run) }
     ensures run { IfOk result (λ run. CameToRest B.items (program_of script.now) run) }
     ensures idle { IfOk result (λ run. TellsIdle run) }
+    ensures same { IfOk result (λ left. IsLeftOf B.items (list_moment run) left) }
 {
     let Run {
         frames,
@@ -98,12 +101,25 @@ impl<B: Book> Run<ListFloor, TreeFloor, B> {
         order: &[Tag],
     ) -> Result<(), Memory>
         requires { RunStands (program_of script.now) (list_moment self.old) }
-        ensures { OnOk result (RunStands (program_of script.now) (list_moment self.new)) }
+        ensures stand { OnOk result (RunStands (program_of script.now) (list_moment self.new)) }
+        ensures made { OnOk result (InOrder (program_of script.now) order.now
+            (state_of (list_moment self.old)) (state_of (list_moment self.new))) }
     {
         for tag in order {
-            if (*tag as usize) < self.frames.len() {
-                let _moved = self.turn(script, gate, *tag)?;
-            }
+            self.poll_one(script, gate, *tag)?;
+        }
+        Ok(())
+    }
+
+    /// Polls the coroutine with this tag, if there is one.
+    fn poll_one<G: Gate>(&mut self, script: &Script, gate: &G, tag: Tag) -> Result<(), Memory>
+        requires { RunStands (program_of script.now) (list_moment self.old) }
+        ensures stand { OnOk result (RunStands (program_of script.now) (list_moment self.new)) }
+        ensures turn { OnOk result (IsTurn (program_of script.now) tag
+            (state_of (list_moment self.old)) (state_of (list_moment self.new))) }
+    {
+        if (tag as usize) < self.frames.len() {
+            let _moved = self.turn(script, gate, tag)?;
         }
         Ok(())
     }
@@ -113,6 +129,8 @@ impl<B: Book> Run<ListFloor, TreeFloor, B> {
         requires { RunStands (program_of script.now) (list_moment self.old) }
         ensures stand { OnOk result (RunStands (program_of script.now) (list_moment self.new)) }
         ensures left { OnOk result (RunIsOver (list_moment self.new)) }
+        ensures turns { OnOk result (AreTurns (program_of script.now)
+            (state_of (list_moment self.old)) (state_of (list_moment self.new))) }
     {
         'turns: loop {
             if self.one_turn(script, gate)? {
@@ -128,6 +146,8 @@ impl<B: Book> Run<ListFloor, TreeFloor, B> {
         ensures stand { OnOk result (RunStands (program_of script.now) (list_moment self.new)) }
         ensures left { IfOk result (λ over. LeftWhere over (list_moment self.new)) }
         ensures fewer { IfOk result (TurnsFall (program_of script.now) (list_moment self.old) (list_moment self.new)) }
+        ensures turns { OnOk result (AreTurns (program_of script.now)
+            (state_of (list_moment self.old)) (state_of (list_moment self.new))) }
     {
         match self.ready.take_first() {
             Some(tag) => {
@@ -146,6 +166,8 @@ impl<B: Book> Run<ListFloor, TreeFloor, B> {
         requires none { self.old.ready.tags.items ≡ [] }
         ensures stand { OnOk result (RunStands (program_of script.now) (list_moment self.new)) }
         ensures calm { IfOk result (RoundIsCalm (program_of script.now) (list_moment self.old) (list_moment self.new)) }
+        ensures turns { OnOk result (AreTurns (program_of script.now)
+            (state_of (list_moment self.old)) (state_of (list_moment self.new))) }
     {
         let moved = self.round(script, gate)?;
         Ok(!moved && self.ready.is_empty())

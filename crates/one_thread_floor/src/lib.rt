@@ -7,7 +7,7 @@
 //! - `list_channel`: a channel as two deques and a table of waits.
 //! - `list_floor`: a floor as channels and the entries made so far; `list_new` makes one.
 //! - `list_queries`: what the lists say.
-//! - `list_removal`: how a wait that is resolved leaves the channels.
+//! - `list_removal`: how a wait that is resolved leaves the channels, and whether anything stands at a place.
 //! - `list_places`: how places are given out.
 //! - `list_settling`: how a wait is settled.
 //! - `list_firsts`: how the first receiver or the first offer goes.
@@ -16,7 +16,7 @@
 //! - `list_clauses`: how a clause is placed; `list_acts`: the acts that two calls share.
 //! - `list_calls`: the calls on channels.
 //! - `list_may`: which acts may come now; `list_steps`: acts that are told, each of which is made if it may come.
-//! - `list_snapshot`: what stands at a channel, and whether a wait was resolved.
+//! - `list_snapshot`: what stands at a channel and at its places, and whether a wait was resolved.
 //! - `list_key`, `tree_key`: what calls can tell of a floor, as numbers.
 //! - `tree_row`: a Job as a row of a vector.
 //! - `tree_rows`: reads and changes of the vector of Jobs.

@@ -20,6 +20,22 @@ impl ListFloor {
         Ok(())
     }
 
+    /// Whether a wait was neither resolved nor settled.
+    pub fn is_standing(&self, w: WaitId) -> bool {
+        matches!(
+            progress_in(self.channels.as_slice(), w),
+            Some(Progress::Standing)
+        )
+    }
+
+    /// The clause at which a wait was resolved, if it was at one; also behind its end.
+    pub fn clause_of(&self, w: WaitId) -> Option<u8> {
+        match progress_in(self.channels.as_slice(), w) {
+            Some(Progress::Resolved(how) | Progress::Settled(_, how)) => clause_by(how),
+            Some(Progress::Standing) | None => None,
+        }
+    }
+
     /// Adds the numbers of a wait: whether it was resolved, and how.
     pub fn push_wait_key(&self, out: &mut Vec<u64>, w: WaitId) -> Result<(), Memory> {
         match progress_in(self.channels.as_slice(), w) {
@@ -35,6 +51,16 @@ fn push_all(out: &mut Vec<u64>, numbers: &[u64]) -> Result<(), Memory> {
         out.push(*number)?;
     }
     Ok(())
+}
+
+fn clause_by(how: Resolution) -> Option<u8> {
+    match how {
+        Resolution::Handed(clause, _)
+        | Resolution::Taken(clause)
+        | Resolution::Admitted(clause)
+        | Resolution::Closed(clause, _) => Some(clause),
+        Resolution::Withdrawn(_) | Resolution::Voided => None,
+    }
 }
 
 fn push_resolution(out: &mut Vec<u64>, how: Resolution) -> Result<(), Memory> {

@@ -1,10 +1,10 @@
-//! What stands at a channel, and whether a wait was resolved, without a call of any coroutine.
+//! What stands at a channel and at its places, and whether a wait was resolved, without a call of any coroutine.
 
 ghost use Rattle.std.specs.Prelude.{◌≡◌, ◌<◌, length};
 ghost use Rattle.channel_model.specs.Histories.{replay};
 ghost use Rattle.one_thread_floor.specs.ListFloors.{floor_of};
-ghost use Rattle.one_thread_floor.specs.ListSnapshots.{Shows, is_resolved};
-ghost use Rattle.one_thread_floor.specs.ListStands.{channel_in, wait_in};
+ghost use Rattle.one_thread_floor.specs.ListSnapshots.{Shows, is_resolved, stands_at};
+ghost use Rattle.one_thread_floor.specs.ListStands.{AllInOrder, channel_in, wait_in};
 
 use crate::list_channel::ListChannel;
 use crate::list_floor::ListFloor;
@@ -12,6 +12,7 @@ use crate::list_may::began;
 use crate::list_queries::{
     closed_with, first_receiver, is_open_wait, next_place, offer_at, queue_len,
 };
+use crate::list_removal::stands_at;
 use channel_model::{Receiver, Standing};
 use co_base::{ChannelId, Place, Value, WaitId};
 
@@ -58,6 +59,17 @@ fn snapshot_in(channels: &Vec<ListChannel>, c: ChannelId) -> Snapshot
     snapshot_of(channels, c)
 }
 
+/// Whether anything stands at this place of a channel; nothing stands at a channel that there is not.
+fn stands_at_in(channels: &Vec<ListChannel>, c: ChannelId, place: Place) -> bool
+    requires { AllInOrder channels.now.items }
+    ensures { result ≡ stands_at place (channel_in channels.now.items c) }
+{
+    if channels.len() <= c as usize {
+        return false;
+    }
+    stands_at(&channels[c as usize], place)
+}
+
 /// Whether a wait began and was resolved.
 fn is_resolved_in(channels: &Vec<ListChannel>, w: WaitId) -> bool
     ensures { result ≡ is_resolved (wait_in channels.now.items w) }
@@ -71,6 +83,14 @@ impl ListFloor {
         ensures { Shows result ((replay (floor_of self.now).seen).channels c) }
     {
         snapshot_in(&self.channels, c)
+    }
+
+    /// Whether a receiver or an offer stands at this place of the channel, of which nothing stands at one that the floor does not have.
+    /// The place is found by halves.
+    pub fn stands_at(&self, c: ChannelId, place: Place) -> bool
+        ensures { result ≡ stands_at place ((replay (floor_of self.now).seen).channels c) }
+    {
+        stands_at_in(&self.channels, c, place)
     }
 
     /// Whether the wait began and was resolved.

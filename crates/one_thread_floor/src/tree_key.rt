@@ -19,6 +19,18 @@ impl TreeFloor {
         }
         Ok(())
     }
+
+    /// Whether a Job is Cancelling.
+    pub fn has_cancelling(&self) -> bool {
+        for row in self.rows.as_slice() {
+            if let Some(row) = row {
+                if row.state == JobState::Cancelling {
+                    return true;
+                }
+            }
+        }
+        false
+    }
 }
 
 /// Adds the numbers of a Job.

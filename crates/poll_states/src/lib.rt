@@ -26,6 +26,7 @@
 //! - `book`: what engines ask of the books of coroutines.
 //! - `coroutine`: a coroutine between two moves.
 //! - `frame`: a coroutine as engines keep it, and what is left of a run.
+//! - `frame_key`: where a coroutine is, as numbers.
 //! - `inside`: how a coroutine enters and leaves repeats, eaches and scopes.
 //! - `floors`: what polls work on, and how a call has it lent.
 //! - `code`: the code that a coroutine runs.
@@ -52,6 +53,7 @@ mod coroutine;
 mod entered;
 mod floors;
 mod frame;
+mod frame_key;
 mod inside;
 mod jobs;
 mod lines;

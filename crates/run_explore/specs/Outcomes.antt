@@ -1,18 +1,21 @@
--- What each outcome of a call says of what was read and of what was written.
-use Rattle.std.specs.Prelude.{◌≡◌, ℕ, ◌≤◌, List, length, Option, Some, None, Result, Ok, Err, String, map}
+-- What each outcome of a call says of the words, of what was read and of what was written.
+use Rattle.std.specs.Prelude.{◌≡◌, ℕ, ◌≤◌, true, List, length, Option, Some, None, Result, Ok, Err, String, map, option_and_then, string_bytes}
 use Rattle.std.specs.Global.{Global}
 use Rattle.std.specs.Vec.Iter.{into_iter_items}
 use Rattle.std.specs.declared.vec.IntoIter.{IntoIter}
 use Rattle.co_base.specs.Streams.{Rose, Gave, GaveJust, IsDrained, Took, TookPart}
 use Rattle.job_model.specs.declared.acts.End.{End}
-use Rattle.job_model.specs.declared.acts.End.TheVariants as ends
+use Rattle.job_model.specs.declared.acts.End.TheVariants as job
 use Rattle.script_grammar.specs.Programs.{Program}
 use Rattle.script_grammar.specs.Grammar.{Spells}
 use Rattle.run_claims.specs.Runs.{HasOneOrder}
 use Rattle.run_claims.specs.Reports.{Reports}
-use Rattle.end_search.specs.Blocks.{Explores}
+use Rattle.engine_one.specs.Orders.{MadeInOrder}
+use Rattle.end_search.specs.Blocks.{Explores, does_suit}
+use Rattle.end_search.specs.declared.wanted.Wanted.{Wanted}
 use Rattle.end_search.specs.declared.ways.Verdict.{Verdict}
 use Rattle.end_search.specs.declared.ways.Verdict.TheVariants as verdict
+use Rattle.run_explore.specs.Words.{Request, asked_of, ends, report_of, in_order}
 use Rattle.run_explore.specs.declared.top.Answer.{Answer}
 use Rattle.run_explore.specs.declared.outcome.Ending.{Ending}
 use Rattle.run_explore.specs.declared.outcome.Ending.TheVariants as ending
@@ -32,8 +35,8 @@ number_of_search verdict.Cut = 4
 -- the number with which the report of a run ends, as that of the run itself
 abbrev pub number_of_run : Option End → ℕ
 number_of_run None = 4
-number_of_run (Some (ends.Completed v)) = 0
-number_of_run (Some (ends.Cancelled cause)) = 1
+number_of_run (Some (job.Completed v)) = 0
+number_of_run (Some (job.Cancelled cause)) = 1
 
 -- the number with which the process ends
 abbrev pub number_of : Outcome → ℕ
@@ -57,22 +60,34 @@ message_of outcomes.NoMemory = Some messages.NoMemory
 
 -- ---- what a text says of the input
 
--- the input is a script, and the text shows ends of runs of it
-pub record ShowsEnds (input text : List ℕ) : Type 0 where
+-- the input is a script, and the text shows ends of runs of it that were looked for, if not all
+pub record ShowsEnds (wanted : Option Wanted) (verdict : Verdict) (input text : List ℕ) : Type 0 where
   pub program : Program
   pub spelled : Spells input program
-  pub explores : Explores program text
+  pub explores : Explores program wanted verdict text
 
 -- the input is a script, and the text the report of a run of it, whose root ended so, if it has; both its histories have one order
 pub record ShowsRun (root : Option End) (input text : List ℕ) : Type 0 where
   pub reports : Reports root input text
   pub one_order : HasOneOrder reports.run
 
--- what the text of a call that ends so says of its input
-abbrev pub Tells : Ending → List ℕ → List ℕ → Type 0
-Tells (ending.Searched verdict) input text = ShowsEnds input text
-Tells (ending.Ran root) input text = ShowsRun root input text
-Tells ending.NoScript input text = (p : Program) → Spells input p → ⊥
+-- the same of a run that was looked for
+abbrev pub ShowsEnd : Option Wanted → Option End → List ℕ → List ℕ → Type 0
+ShowsEnd wanted root input text = (does_suit wanted root ≡ true) × ShowsRun root input text
+
+-- the same of a run that began with turns of these coroutines, in this order
+pub record ShowsOrder (order : List ℕ) (root : Option End) (input text : List ℕ) : Type 0 where
+  pub shows : ShowsRun root input text
+  pub made : MadeInOrder shows.reports.program order shows.reports.run.books shows.reports.run.channels shows.reports.run.jobs
+
+-- what the text of a call that ends so says of its input: what was asked for, unless the input is no script
+abbrev pub Tells : Ending → Request → List ℕ → List ℕ → Type 0
+Tells (ending.Searched verdict) (ends limit) input text = ShowsEnds limit.wanted verdict input text
+Tells (ending.Searched verdict) other input text = ⊥
+Tells (ending.Ran root) (ends limit) input text = ⊥
+Tells (ending.Ran root) (report_of number limit) input text = ShowsEnd limit.wanted root input text
+Tells (ending.Ran root) (in_order order) input text = ShowsOrder order root input text
+Tells ending.NoScript request input text = (p : Program) → Spells input p → ⊥
 
 -- ---- what an outcome says of the call
 
@@ -84,53 +99,66 @@ pub record Stream : Type 0 where
 abbrev pub stream : Option (List ℕ) → ℕ → Stream
 stream bytes faults = record { bytes = bytes; faults = faults }
 
--- the source gave an input, all that it had unless that is too long for a script, and the text tells of it
-pub record Answers (how : Ending) (source source' : Stream) (text : List ℕ) : Type 0 where
+-- the words are those of a call, the source gave an input, all that it had unless that is too long for a script, and the text tells of it
+-- what was asked for
+pub record Answers (asked : Option Request) (how : Ending) (source source' : Stream) (text : List ℕ) : Type 0 where
+  pub what : Request
+  pub is_asked : asked ≡ Some what
   pub input : List ℕ
   pub given : Gave source.bytes source'.bytes input
   pub all : length input ≤ 1048576 → IsDrained source'.bytes
-  pub tells : Tells how input text
+  pub tells : Tells how what input text
 
 -- the text was written whole
-pub record Writes (how : Ending) (source source' sink sink' : Stream) : Type 0 where
+pub record Writes (asked : Option Request) (how : Ending) (source source' sink sink' : Stream) : Type 0 where
   pub text : List ℕ
-  pub answers : Answers how source source' text
+  pub answers : Answers asked how source source' text
   pub taken : Took sink.bytes sink'.bytes text
 
 -- the sink failed after a part of the text
-pub record BreaksOff (source source' sink sink' : Stream) : Type 0 where
+pub record BreaksOff (asked : Option Request) (source source' sink sink' : Stream) : Type 0 where
   pub rose : Rose sink.faults sink'.faults
   pub how : Ending
   pub text : List ℕ
-  pub answers : Answers how source source' text
+  pub answers : Answers asked how source source' text
   pub part : TookPart text sink.bytes sink'.bytes
 
--- why a call has no text to write; that no memory was found, or that no end has the number, says nothing
-abbrev pub Fails : Outcome → Stream → Stream → Type 0
-Fails (outcomes.Written how) source source' = ⊥
-Fails outcomes.Refused source source' = source ≡ source'
-Fails outcomes.NoEnd source source' = Unit {0}
-Fails outcomes.ReadFault source source' = Rose source.faults source'.faults
-Fails outcomes.WriteFault source source' = ⊥
-Fails outcomes.NoMemory source source' = Unit {0}
+-- the words are those of a call
+abbrev pub IsAsked : Option Request → Type 0
+IsAsked None = ⊥
+IsAsked (Some what) = Unit {0}
+
+-- they ask for the report of an end
+abbrev pub AsksReport : Option Request → Type 0
+AsksReport (Some (report_of number limit)) = Unit {0}
+AsksReport other = ⊥
+
+-- why a call has no text to write; that no memory was found says nothing
+abbrev pub Fails : Outcome → Option Request → Stream → Stream → Type 0
+Fails (outcomes.Written how) asked source source' = ⊥
+Fails outcomes.Refused asked source source' = (asked ≡ None) × (source ≡ source')
+Fails outcomes.NoEnd asked source source' = AsksReport asked
+Fails outcomes.ReadFault asked source source' = IsAsked asked × Rose source.faults source'.faults
+Fails outcomes.WriteFault asked source source' = ⊥
+Fails outcomes.NoMemory asked source source' = Unit {0}
 
 -- what each outcome says: a text was written whole, or a part of it until a write failed, or nothing was written
-abbrev pub Means : Outcome → Stream → Stream → Stream → Stream → Type 0
-Means (outcomes.Written how) source source' sink sink' = Writes how source source' sink sink'
-Means outcomes.WriteFault source source' sink sink' = BreaksOff source source' sink sink'
-Means other source source' sink sink' = Fails other source source' × (sink ≡ sink')
+abbrev pub Means : Outcome → Option Request → Stream → Stream → Stream → Stream → Type 0
+Means (outcomes.Written how) asked source source' sink sink' = Writes asked how source source' sink sink'
+Means outcomes.WriteFault asked source source' sink sink' = BreaksOff asked source source' sink sink'
+Means other asked source source' sink sink' = Fails other asked source source' × (sink ≡ sink')
 
 -- what a call comes to that has this text to write, or none
-abbrev pub IsMade : Result Answer Outcome → Stream → Stream → Type 0
-IsMade (Ok answer) source source' = Answers answer.ending source source' answer.text.items
-IsMade (Err outcome) source source' = Fails outcome source source'
+abbrev pub IsMade : Result Answer Outcome → Option Request → Stream → Stream → Type 0
+IsMade (Ok answer) asked source source' = Answers asked answer.ending source source' answer.text.items
+IsMade (Err outcome) asked source source' = Fails outcome asked source source'
 
--- the same of the bytes of the input
-abbrev pub IsMadeOf : List ℕ → Result Answer Outcome → Type 0
-IsMadeOf input (Ok answer) = Tells answer.ending input answer.text.items
-IsMadeOf input (Err outcomes.NoEnd) = Unit {0}
-IsMadeOf input (Err outcomes.NoMemory) = Unit {0}
-IsMadeOf input (Err other) = ⊥
+-- the same of what is asked for of the bytes of the input
+abbrev pub IsMadeOf : Request → List ℕ → Result Answer Outcome → Type 0
+IsMadeOf what input (Ok answer) = Tells answer.ending what input answer.text.items
+IsMadeOf what input (Err outcomes.NoEnd) = AsksReport (Some what)
+IsMadeOf what input (Err outcomes.NoMemory) = Unit {0}
+IsMadeOf what input (Err other) = ⊥
 
 -- what a write of an answer came to
 abbrev pub IsWritten : Outcome → Answer → Stream → Stream → Type 0
@@ -142,3 +170,7 @@ IsWritten other answer sink sink' = ⊥
 abbrev pub arguments_given : {E : Type 0} → Result (IntoIter (String Global) Global) E → Option (List (String Global))
 arguments_given (Ok arguments) = Some (into_iter_items arguments)
 arguments_given (Err error) = None
+
+-- what the arguments ask for
+abbrev pub asked_for : {E : Type 0} → Result (IntoIter (String Global) Global) E → Option Request
+asked_for arguments = option_and_then (λ all. asked_of (map string_bytes all)) (arguments_given arguments)

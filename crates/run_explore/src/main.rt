@@ -20,7 +20,14 @@ use std::process::ExitCode;
 fn main(rt: HostRuntime) -> ExitCode {
     let mut source = StdSource::new(rt.stdin());
     let mut sink = StdSink::new(rt.stdout());
-    let left = process(rt.alloc(), env::args(&rt), &mut source, &mut sink);
+    let mut errors = StdSink::new(rt.stderr());
+    let left = process(
+        rt.alloc(),
+        env::args(&rt),
+        &mut source,
+        &mut sink,
+        &mut errors,
+    );
     if let Some(message) = left.message {
         let _ = eprintln!(rt; "{message}");
     }

@@ -12,7 +12,7 @@ use thiserror::Error;
 /// How a call ends that has a text to write.
 #[derive(Clone, Copy)]
 pub enum Ending {
-    /// The text tells the ends of the script.
+    /// The text tells the ends of the script that were looked for.
     Searched(Verdict),
     /// The text is the report of a run, whose root's Job ended so, if it did.
     Ran(Option<End>),
@@ -40,7 +40,7 @@ pub enum Outcome {
 /// What standard error says.
 #[derive(Clone, Copy, Debug, Error)]
 pub enum Message {
-    #[error("usage: run_explore [--find WHAT] [--states N] [--report N] [--order T,T..]")]
+    #[error("usage: run_explore [--find WHAT] [--tell WHAT] [--states N] [--report N] [--order T,T..]")]
     Usage,
     #[error("no end has this number")]
     NoEnd,

@@ -3,7 +3,7 @@
 ghost use Rattle.std.specs.Prelude.{◌≡◌, IfOk, option_map};
 ghost use Rattle.std.specs.Process.{exit_status};
 ghost use Rattle.std.specs.Vec.Iter.{into_iter_items};
-ghost use Rattle.run_explore.specs.Outcomes.{Means, arguments_given, message_of, number_of, stream};
+ghost use Rattle.run_explore.specs.Outcomes.{Means, arguments_given, asked_for, message_of, number_of, stream};
 ghost use Rattle.run_explore.specs.declared.outcome.Outcome.{Outcome as Comes};
 
 use crate::outcome::{Message, Outcome, exit_code};
@@ -23,19 +23,20 @@ pub struct Left {
 
 /// Does what the arguments ask for, as `explore_main`, and answers what the process leaves. An argument that is no text is none that
 /// is accepted.
-pub fn process<S: Source, K: Sink>(
+pub fn process<S: Source, K: Sink, E: Sink>(
     alloc: Global,
     arguments: io::Result<Args>,
     source: &mut S,
     sink: &mut K,
+    errors: &mut E,
 ) -> Left
     ensures { (outcome : Comes) × (exit_status result.code ≡ number_of outcome) × (result.message ≡ message_of outcome)
-        × Means outcome (stream (S.left source.old) (S.faults source.old))
+        × Means outcome (asked_for arguments) (stream (S.left source.old) (S.faults source.old))
         (stream (S.left source.new) (S.faults source.new)) (stream (K.held sink.old) (K.faults sink.old))
         (stream (K.held sink.new) (K.faults sink.new)) }
 {
     match texts_of(alloc, arguments) {
-        Ok(Some(texts)) => leaving(explore_main(alloc, texts.as_slice(), source, sink)),
+        Ok(Some(texts)) => leaving(explore_main(alloc, texts.as_slice(), source, sink, errors)),
         Ok(None) => leaving(Outcome::Refused),
         Err(_) => leaving(Outcome::NoMemory),
     }

@@ -1,17 +1,18 @@
 //! The whole call, over any source and sink.
 
-ghost use Rattle.std.specs.Prelude.{◌≡◌, ◌≢◌, IfErr, IfOk};
+ghost use Rattle.std.specs.Prelude.{◌≡◌, ◌≢◌, IfErr, IfOk, Some, map, string_bytes};
 ghost use Rattle.script_grammar.specs.Grammar.{Spells};
 ghost use Rattle.script_grammar.specs.declared.fault.FaultKind.TheVariants.{Memory as NoMemory};
 ghost use Rattle.script_reader.specs.Scripts.{program_of};
+ghost use Rattle.run_explore.specs.Words.{asked_of, ends, in_order, report_of, request_of};
 ghost use Rattle.run_explore.specs.Outcomes.{IsMade, IsMadeOf, IsWritten, Means, stream};
 ghost use Rattle.run_explore.specs.declared.outcome.Ending.TheVariants.{NoScript, Ran};
 ghost use Rattle.run_explore.specs.declared.outcome.Outcome.TheVariants as outcomes;
 
 use crate::outcome::{Ending, Outcome};
 use crate::words::{Asked, asked_of};
-use co_base::{Memory, OpenGate, ReadError, Sink, Source, read_script, write_all};
-use end_search::{Report, explore, report_in_order, report_of_end};
+use co_base::{Memory, OpenGate, ReadError, Sink, Source, Tag, read_script, write_all};
+use end_search::{Limit, Report, explore, report_in_order, report_of_end};
 use run_report::fault_line;
 use script_grammar::{FaultKind, ScriptFault};
 use script_reader::{Script, read};
@@ -26,18 +27,20 @@ pub struct Answer {
 
 /// Tells the ends of the script that the source gives, or what else the words ask for, of which the first is the program's name.
 ///
-/// The order is words, script, search; the text is made whole before its first byte is written.
-pub fn explore_main<S: Source, K: Sink>(
+/// The order is words, script, search; the text is made whole before its first byte is written. A long search says to `errors` how far it
+/// is.
+pub fn explore_main<S: Source, K: Sink, E: Sink>(
     alloc: Global,
     words: &[String],
     source: &mut S,
     sink: &mut K,
+    errors: &mut E,
 ) -> Outcome
-    ensures { Means result (stream (S.left source.old) (S.faults source.old))
+    ensures { Means result (asked_of (map string_bytes words.now)) (stream (S.left source.old) (S.faults source.old))
         (stream (S.left source.new) (S.faults source.new)) (stream (K.held sink.old) (K.faults sink.old))
         (stream (K.held sink.new) (K.faults sink.new)) }
 {
-    match make_answer(alloc, words, source) {
+    match make_answer(alloc, words, source, errors) {
         Ok(answer) => written(sink, &answer),
         Err(outcome) => outcome,
     }
@@ -55,28 +58,34 @@ fn written<K: Sink>(sink: &mut K, answer: &Answer) -> Outcome
 }
 
 /// Makes what the words ask for.
-fn make_answer<S: Source>(
+fn make_answer<S: Source, E: Sink>(
     alloc: Global,
     words: &[String],
     source: &mut S,
+    errors: &mut E,
 ) -> Result<Answer, Outcome>
-    ensures { IsMade result (stream (S.left source.old) (S.faults source.old))
+    ensures { IsMade result (asked_of (map string_bytes words.now)) (stream (S.left source.old) (S.faults source.old))
         (stream (S.left source.new) (S.faults source.new)) }
 {
     match asked_of(alloc, words) {
-        Ok(Some(asked)) => read_answer(alloc, asked, source),
+        Ok(Some(asked)) => read_answer(alloc, asked, source, errors),
         Ok(None) => Err(Outcome::Refused),
         Err(_) => Err(Outcome::NoMemory),
     }
 }
 
 /// Makes what is asked for of what the source gives.
-fn read_answer<S: Source>(alloc: Global, asked: Asked, source: &mut S) -> Result<Answer, Outcome>
-    ensures { IsMade result (stream (S.left source.old) (S.faults source.old))
+fn read_answer<S: Source, E: Sink>(
+    alloc: Global,
+    asked: Asked,
+    source: &mut S,
+    errors: &mut E,
+) -> Result<Answer, Outcome>
+    ensures { IsMade result (Some (request_of asked)) (stream (S.left source.old) (S.faults source.old))
         (stream (S.left source.new) (S.faults source.new)) }
 {
     match read_script(alloc, source) {
-        Ok(bytes) => answer_of(alloc, asked, bytes.as_slice()),
+        Ok(bytes) => answer_of(alloc, asked, bytes.as_slice(), errors),
         Err(ReadError::TooLong) => too_long(alloc),
         Err(ReadError::ReadFault) => Err(Outcome::ReadFault),
         Err(ReadError::Memory) => Err(Outcome::NoMemory),
@@ -84,11 +93,16 @@ fn read_answer<S: Source>(alloc: Global, asked: Asked, source: &mut S) -> Result
 }
 
 /// Makes what is asked for of a text.
-fn answer_of(alloc: Global, asked: Asked, bytes: &[u8]) -> Result<Answer, Outcome>
-    ensures { IsMadeOf bytes.now result }
+fn answer_of<E: Sink>(
+    alloc: Global,
+    asked: Asked,
+    bytes: &[u8],
+    errors: &mut E,
+) -> Result<Answer, Outcome>
+    ensures { IsMadeOf (request_of asked) bytes.now result }
 {
     match read(alloc, bytes) {
-        Ok(script) => script_answer(alloc, asked, &script, bytes),
+        Ok(script) => script_answer(alloc, asked, &script, bytes, errors),
         Err(fault) => match fault.kind {
             FaultKind::Memory => Err(Outcome::NoMemory),
             _ => fault_answer(alloc, &fault),
@@ -97,36 +111,75 @@ fn answer_of(alloc: Global, asked: Asked, bytes: &[u8]) -> Result<Answer, Outcom
 }
 
 /// Makes what is asked for of a script, and of its text.
-fn script_answer(
+fn script_answer<E: Sink>(
     alloc: Global,
     asked: Asked,
     script: &Script,
     bytes: &[u8],
+    errors: &mut E,
 ) -> Result<Answer, Outcome>
     requires { Spells bytes.now (program_of script.now) }
-    ensures { IsMadeOf bytes.now result }
+    ensures { IsMadeOf (request_of asked) bytes.now result }
 {
     match asked {
-        Asked::Ends(limit) => match explore(alloc, script, bytes, limit, &OpenGate) {
-            Ok(explored) => Ok(Answer {
-                ending: Ending::Searched(explored.verdict),
-                text: explored.text,
-            }),
-            Err(_) => Err(Outcome::NoMemory),
-        },
-        Asked::Report(number, limit) => {
-            match report_of_end(alloc, script, bytes, limit, number, &OpenGate) {
-                Ok(Some(report)) => Ok(answer_by(report)),
-                Ok(None) => Err(Outcome::NoEnd),
-                Err(_) => Err(Outcome::NoMemory),
-            }
-        }
-        Asked::Order(order) => {
-            match report_in_order(alloc, script, order.as_slice(), &OpenGate) {
-                Ok(report) => Ok(answer_by(report)),
-                Err(_) => Err(Outcome::NoMemory),
-            }
-        }
+        Asked::Ends(limit) => ends_answer(alloc, limit, script, bytes, errors),
+        Asked::Report(number, limit) => end_answer(alloc, number, limit, script, bytes, errors),
+        Asked::Order(order) => order_answer(alloc, order.as_slice(), script, bytes),
+    }
+}
+
+/// Tells the ends.
+fn ends_answer<E: Sink>(
+    alloc: Global,
+    limit: Limit,
+    script: &Script,
+    bytes: &[u8],
+    errors: &mut E,
+) -> Result<Answer, Outcome>
+    requires { Spells bytes.now (program_of script.now) }
+    ensures { IsMadeOf (ends limit) bytes.now result }
+{
+    match explore(alloc, script, bytes, limit, &OpenGate, errors) {
+        Ok(explored) => Ok(Answer {
+            ending: Ending::Searched(explored.verdict),
+            text: explored.text,
+        }),
+        Err(_) => Err(Outcome::NoMemory),
+    }
+}
+
+/// Reports the end with this number.
+fn end_answer<E: Sink>(
+    alloc: Global,
+    number: u32,
+    limit: Limit,
+    script: &Script,
+    bytes: &[u8],
+    errors: &mut E,
+) -> Result<Answer, Outcome>
+    requires { Spells bytes.now (program_of script.now) }
+    ensures { IsMadeOf (report_of number limit) bytes.now result }
+{
+    match report_of_end(alloc, script, bytes, limit, number, &OpenGate, errors) {
+        Ok(Some(report)) => Ok(answer_by(report)),
+        Ok(None) => Err(Outcome::NoEnd),
+        Err(_) => Err(Outcome::NoMemory),
+    }
+}
+
+/// Reports the run in this order.
+fn order_answer(
+    alloc: Global,
+    order: &[Tag],
+    script: &Script,
+    bytes: &[u8],
+) -> Result<Answer, Outcome>
+    requires { Spells bytes.now (program_of script.now) }
+    ensures { IsMadeOf (in_order order.now) bytes.now result }
+{
+    match report_in_order(alloc, script, order, &OpenGate) {
+        Ok(report) => Ok(answer_by(report)),
+        Err(_) => Err(Outcome::NoMemory),
     }
 }
 

@@ -1,9 +1,15 @@
 //! Which words are accepted, and what they ask for.
 
+ghost use Rattle.std.specs.Prelude.{◌≡◌, ◌≢◌, IfOk, Some, false, map, option_map, option_and_then, string_bytes, true};
+ghost use lib.Chars.{codes};
+ghost use Rattle.clap.specs.Words.{app_of, first_of, found_of, is_simple_and_free, rows_of, rule_of};
+ghost use Rattle.report_reader.specs.Words.{value_at};
+ghost use Rattle.run_explore.specs.Words.{asked_by, asked_of, asked_within, explore_line, find_of, limit_in, limit_with, matches_by, number_at, option, request_of, states_of, tag_at, tags_of, tell_of, wanted_of};
+
 use clap::error::ErrorKind;
-use clap::{Arg, ArgMatches};
+use clap::{Arg, ArgMatches, Error};
 use co_base::{Memory, Tag};
-use end_search::{Limit, Wanted};
+use end_search::{Limit, Tell, Wanted};
 use report_reader::{cut_at, value_of};
 use std::alloc::Global;
 
@@ -18,15 +24,90 @@ pub enum Asked {
     Order(Vec<Tag>),
 }
 
-/// How many states are looked at if nothing is said.
-const STATES: u32 = 1000000;
-
 /// What the words ask for, of which the first is the program's name.
-pub fn asked_of(alloc: Global, words: &[String]) -> Result<Option<Asked>, Memory> {
-    match explore_line(alloc)?.try_get_matches_from(words) {
-        Ok(matches) => asked_by(alloc, &matches),
+pub fn asked_of(alloc: Global, words: &[String]) -> Result<Option<Asked>, Memory>
+    ensures { IfOk result (λ asked. option_map request_of asked ≡ asked_of (map string_bytes words.now)) }
+{
+    let Some(matches) = matches_of(explore_line(alloc)?, words)? else {
+        return Ok(None);
+    };
+    asked_by(alloc, &matches)
+}
+
+/// What the values of the options ask for.
+fn asked_by(alloc: Global, matches: &ArgMatches<'_>) -> Result<Option<Asked>, Memory>
+    ensures { IfOk result (λ asked. option_map request_of asked ≡ asked_by (rows_of (found_of matches.now))) }
+{
+    let Some(limit) = limit_in(matches) else {
+        return Ok(None);
+    };
+    asked_within(
+        alloc,
+        limit,
+        matches.get_str("order"),
+        matches.get_str("report"),
+    )
+}
+
+fn asked_within(
+    alloc: Global,
+    limit: Limit,
+    order: Option<&str>,
+    number: Option<&str>,
+) -> Result<Option<Asked>, Memory>
+    ensures { IfOk result (λ asked. option_map request_of asked
+        ≡ asked_within limit (option_map (λ w. w.now) order.entry) (option_map (λ w. w.now) number.entry)) }
+{
+    match (order, number) {
+        (None, None) => Ok(Some(Asked::Ends(limit))),
+        (None, Some(word)) => match number_at(word.as_bytes()) {
+            Some(number) => Ok(Some(Asked::Report(number, limit))),
+            None => Ok(None),
+        },
+        (Some(word), None) => match order_of(alloc, word.as_bytes())? {
+            Some(order) => Ok(Some(Asked::Order(order))),
+            None => Ok(None),
+        },
+        (Some(_), Some(_)) => Ok(None),
+    }
+}
+
+// ---- the command line
+
+/// `run_explore [--find WHAT] [--tell WHAT] [--states N] [--report N] [--order T,T..]`.
+fn explore_line<'a>(alloc: Global) -> Result<clap::Command<'a>, Memory>
+    ensures { IfOk result (λ line. app_of line ≡ explore_line) }
+{
+    let line = clap::Command::new(alloc, "run_explore")
+        .arg(option(alloc, "find"))?
+        .arg(option(alloc, "tell"))?
+        .arg(option(alloc, "states"))?
+        .arg(option(alloc, "report"))?
+        .arg(option(alloc, "order"))?;
+    Ok(line)
+}
+
+/// An option with a value.
+fn option<'a>(alloc: Global, name: &'a str) -> Arg<'a>
+    ensures rule { rule_of result ≡ option name.now }
+    ensures local { result.global ≡ false }
+{
+    Arg::new(alloc, name).long(name)
+}
+
+/// The matches of the words, if they have any.
+fn matches_of<'a>(
+    line: clap::Command<'a>,
+    words: &'a [String],
+) -> Result<Option<ArgMatches<'a>>, Memory>
+    requires { is_simple_and_free (app_of line) ≡ true }
+    ensures { IfOk result (λ found. option_map (λ m. rows_of (found_of m)) found
+        ≡ matches_by (app_of line.entry) (map string_bytes words.now)) }
+{
+    match line.try_get_matches_from(words) {
+        Ok(matches) => Ok(Some(matches)),
         Err(error) => {
-            if matches!(error.kind(), ErrorKind::OutOfMemory) {
+            if is_memory(error.kind()) {
                 Err(Memory)
             } else {
                 Ok(None)
@@ -35,50 +116,61 @@ pub fn asked_of(alloc: Global, words: &[String]) -> Result<Option<Asked>, Memory
     }
 }
 
-/// `run_explore [--find WHAT] [--states N] [--report N] [--order T,T..]`.
-fn explore_line<'a>(alloc: Global) -> Result<clap::Command<'a>, Memory> {
-    let line = clap::Command::new(alloc, "run_explore")
-        .arg(Arg::new(alloc, "find").long("find"))?
-        .arg(Arg::new(alloc, "states").long("states"))?
-        .arg(Arg::new(alloc, "report").long("report"))?
-        .arg(Arg::new(alloc, "order").long("order"))?;
-    Ok(line)
+/// Whether it is for want of memory that clap has no matches.
+fn is_memory(kind: ErrorKind) -> bool
+    ensures { result ≡ false → kind ≢ ErrorKind.OutOfMemory }
+{
+    matches!(kind, ErrorKind::OutOfMemory)
 }
 
-fn asked_by(alloc: Global, matches: &ArgMatches<'_>) -> Result<Option<Asked>, Memory> {
-    let Some(limit) = limit_in(matches) else {
-        return Ok(None);
-    };
-    match (matches.get_str("order"), matches.get_str("report")) {
-        (Some(word), None) => {
-            let order = order_of(alloc, word.as_bytes())?;
-            Ok(order.map(Asked::Order))
-        }
-        (None, Some(word)) => match value_of(word.as_bytes()) {
-            Some(number) if number > 0 => Ok(Some(Asked::Report(number, limit))),
-            _ => Ok(None),
-        },
-        (None, None) => Ok(Some(Asked::Ends(limit))),
-        (Some(_), Some(_)) => Ok(None),
-    }
+// ---- the values
+
+fn limit_in(matches: &ArgMatches<'_>) -> Option<Limit>
+    ensures { result ≡ limit_in (rows_of (found_of matches.now)) }
+{
+    limit_by(
+        matches.get_str("find"),
+        matches.get_str("tell"),
+        matches.get_str("states"),
+    )
 }
 
-fn limit_in(matches: &ArgMatches<'_>) -> Option<Limit> {
-    let wanted = match matches.get_str("find") {
-        Some(word) => Some(wanted_of(word)?),
-        None => None,
-    };
-    let states = match matches.get_str("states") {
-        Some(word) => value_of(word.as_bytes())?,
-        None => STATES,
-    };
-    if states == 0 {
+fn limit_by(find: Option<&str>, tell: Option<&str>, states: Option<&str>) -> Option<Limit>
+    ensures { result ≡ limit_with (find_of (option_map (λ w. w.now) find.entry)) (tell_of (option_map (λ w. w.now) tell.entry))
+        (states_of (option_map (λ w. w.now) states.entry)) }
+{
+    let Some(wanted) = find_of(find) else {
         return None;
-    }
-    Some(Limit { wanted, states })
+    };
+    let Some(tell) = tell_of(tell) else {
+        return None;
+    };
+    let Some(states) = states_of(states) else {
+        return None;
+    };
+    Some(Limit {
+        wanted,
+        tell,
+        states,
+    })
 }
 
-fn wanted_of(word: &str) -> Option<Wanted> {
+/// Which ends are looked for.
+fn find_of(word: Option<&str>) -> Option<Option<Wanted>>
+    ensures { result ≡ find_of (option_map (λ w. w.now) word.entry) }
+{
+    match word {
+        Some(word) => match wanted_of(word) {
+            Some(wanted) => Some(Some(wanted)),
+            None => None,
+        },
+        None => Some(None),
+    }
+}
+
+fn wanted_of(word: &str) -> Option<Wanted>
+    ensures { result ≡ wanted_of word.now }
+{
     if word == "unfinished" {
         Some(Wanted::Unfinished)
     } else if word == "failed" {
@@ -98,13 +190,57 @@ fn wanted_of(word: &str) -> Option<Wanted> {
     }
 }
 
+fn tell_of(word: Option<&str>) -> Option<Tell>
+    ensures { result ≡ tell_of (option_map (λ w. w.now) word.entry) }
+{
+    match word {
+        Some(word) => tell_named(word),
+        None => Some(Tell::All),
+    }
+}
+
+fn tell_named(word: &str) -> Option<Tell>
+    ensures { result ≡ tell_of (Some word.now) }
+{
+    if word == "status" {
+        Some(Tell::Status)
+    } else if word == "jobs" {
+        Some(Tell::Jobs)
+    } else if word == "all" {
+        Some(Tell::All)
+    } else {
+        None
+    }
+}
+
+fn states_of(word: Option<&str>) -> Option<u32>
+    ensures { result ≡ states_of (option_map (λ w. w.now) word.entry) }
+{
+    match word {
+        Some(word) => number_at(word.as_bytes()),
+        None => Some(1000000),
+    }
+}
+
+/// A number that is not 0.
+fn number_at(word: &[u8]) -> Option<u32>
+    ensures { result ≡ number_at word.now }
+{
+    match value_of(word) {
+        Some(number) if number > 0 => Some(number),
+        _ => None,
+    }
+}
+
 /// The tags that a word names, with commas between them.
-fn order_of(alloc: Global, word: &[u8]) -> Result<Option<Vec<Tag>>, Memory> {
+fn order_of(alloc: Global, word: &[u8]) -> Result<Option<Vec<Tag>>, Memory>
+    ensures { IfOk result (λ order. option_map (λ tags. tags.items) order ≡ tags_of word.now) }
+{
     let mut order = Vec::new(alloc);
     let mut rest = word;
-    for _ in 0..=word.len() {
+    'tags: loop {
         let (one, more) = cut_at(b',', rest);
-        let Some(tag) = tag_of(one) else {
+        let Some(tag) = tag_at(one) else {
             return Ok(None);
         };
         order.push(tag)?;
@@ -113,9 +249,13 @@ fn order_of(alloc: Global, word: &[u8]) -> Result<Option<Vec<Tag>>, Memory> {
         };
         rest = next;
     }
-    Ok(None)
 }
 
-fn tag_of(word: &[u8]) -> Option<Tag> {
-    Tag::try_from(value_of(word)?).ok()
+fn tag_at(word: &[u8]) -> Option<Tag>
+    ensures { result ≡ tag_at word.now }
+{
+    match value_of(word) {
+        Some(number) if number < 65536 => Some(number as Tag),
+        _ => None,
+    }
 }

@@ -3,4 +3,4 @@ use Rattle.end_search.specs.Blocks.{Blocks}
 use Rattle.end_search.proofs.answers.push_blocks.Given as goal
 
 abbrev pub invariant-loop-way : goal.invariant-loop-way
-invariant-loop-way g l = Blocks (program_of l.script) l.count l.out.items
+invariant-loop-way g l = Blocks (program_of l.shown.script.now) l.shown.wanted l.count l.out.items

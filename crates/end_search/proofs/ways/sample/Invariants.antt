@@ -1,0 +1,6 @@
+use Rattle.script_reader.specs.Scripts.{program_of}
+use Rattle.engine_one.specs.Trials.{TrialStands}
+use Rattle.end_search.proofs.ways.sample.Given as goal
+
+abbrev pub invariant-loop-run : goal.invariant-loop-run
+invariant-loop-run g l = TrialStands (program_of l.search.script.now) l.trial
