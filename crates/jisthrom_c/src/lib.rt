@@ -1,7 +1,12 @@
-//! Scripts for programs in C, and in what calls C: one call, from the bytes of a script to those of its report.
+//! Scripts and channels for programs in C, and in what calls C.
 //!
 //! A static library. `include/jisthrom.h` is its header, written by hand, and `docs/C.md` says how it is built and linked.
+//!
+//! - this file: one call, from the bytes of a script to those of its report
+//! - `channels`: channels by ends that C holds
 #![tactic(auto)]
+
+mod channels;
 
 ghost use Rattle.std.specs.Prelude.{◌≡◌, take, string_bytes, map, codes, [], ◌∷◌, IfOk};
 ghost use Rattle.co_base.specs.InMemory.{bytes_held};

@@ -1,0 +1,4 @@
+mod AsBox
+mod EndsGo
+mod Handles
+mod Masks
