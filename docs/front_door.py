@@ -50,6 +50,8 @@ WORDS = [
     (2, "picture --only jobs", "", "--only takes one of channels, and not 'jobs'"),
     (2, "picture --size 5", "", "picture has no option '--size'"),
     (2, "picture none.report", "", "there is no file 'none.report' for picture to read"),
+    (2, "picture --script none.co", "", "there is no file 'none.co' for picture to read"),
+    (2, "picture --script", "", "--script has no value"),
     (2, "explain", "", "explain wants a script"),
     (2, "explain none.co", "", "there is no file 'none.co' for explain to read"),
     (2, "explore --fnid held", "", "explore has no option '--fnid'"),
