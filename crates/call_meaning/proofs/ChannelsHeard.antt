@@ -1,5 +1,6 @@
 -- From what a floor of channels answers to what is told of the call: for any history of Jobs that the caller has at hand.
 use Rattle.std.specs.Prelude.{◌≡◌, ℕ, List, [], ◌∷◌, ◌++◌, refl}
+use Rattle.co_base.proofs.Orders.{order_same}
 use mathlib.Core.List.{IsPrefix}
 use Rattle.std.proofs.Common.{sym, ap, ◌∙◌, subst, append_assoc}
 use Rattle.channel_model.specs.declared.acts.Act.{Act}
@@ -21,6 +22,8 @@ use Rattle.call_meaning.specs.Facts.{ActHolds, ChannelNoteHolds, ChannelFactHold
 use Rattle.call_meaning.specs.Stories.{Moment, IsBy, IsTrue, story_of}
 use Rattle.call_meaning.specs.Seen.{SeenOnChannels}
 use Rattle.call_meaning.specs.Calls.{ToldOnChannels}
+use Rattle.call_meaning.specs.Calls.{IsOfChannels}
+use Rattle.call_meaning.proofs.PointsOfMoments.{all_then}
 use Rattle.call_meaning.proofs.Tellings.{true_then}
 
 -- ---- moments that differ by the history of channels alone
@@ -58,6 +61,7 @@ told_then {a} {b} {c} {xs} {ys} h n =
           (added_then who (channel_acts_in (items_in xs)) (channel_acts_in (items_in ys)) a.floor b.floor c.floor h.added m.added);
       no_jobs = ap job_acts_in (items_in-append xs ys) ∙ job_acts_in-append (items_in xs) (items_in ys)
           ∙ ap (λ l. l ++ job_acts_in (items_in ys)) h.no_jobs ∙ m.no_jobs;
+      of_channels = all_then IsOfChannels xs ys h.of_channels m.of_channels;
       was_so = λ book jobs e f.
           let mine : acts_of who b.floor.seen ≡ channel_acts_in (book ++ items_in xs) =
           h.added.mine ∙ ap (λ l. l ++ channel_acts_in (items_in xs)) e ∙ sym (channel_acts_in-append book (items_in xs)) in
@@ -80,6 +84,7 @@ told_nothing {n} {a} {b} h w e = record {
   appended = e ∙ sym (nothing_more a.items);
   added = added_room a.who n a.floor b.floor h;
   no_jobs = refl;
+  of_channels = tt;
   was_so = λ book jobs f g. tt;
 }
 
@@ -99,6 +104,7 @@ told_made act {a} {b} h m w e = record {
   appended = e;
   added = added_made a.who act a.floor b.floor h;
   no_jobs = refl;
+  of_channels = (tt, tt);
   was_so = λ book jobs f g. (
     seen_with m.moment jobs,
     record {
@@ -123,6 +129,7 @@ told_made_after fact act {a} {b} h free m w e = record {
   appended = e;
   added = added_made a.who act a.floor b.floor h;
   no_jobs = refl;
+  of_channels = (tt, (tt, tt));
   was_so = λ book jobs f g.
       let at : Moment = seen_with m.moment jobs in
       let later = by_channels jobs m.moment b.floor.seen m.before in
@@ -176,6 +183,7 @@ told_met n {a} {b} none h m w e = record {
   appended = e;
   added = added_heard a.who n a.floor b.floor none h;
   no_jobs = refl;
+  of_channels = (tt, tt);
   was_so = λ book jobs f g. (
     seen_with m.moment jobs,
     record {
@@ -199,6 +207,7 @@ told_met_after fact n {a} {b} none h m holds w e = record {
   appended = e;
   added = added_heard a.who n a.floor b.floor none h;
   no_jobs = refl;
+  of_channels = (tt, (tt, tt));
   was_so = λ book jobs f g.
       let at : Moment = seen_with m.moment jobs in
       let later = by_channels jobs m.moment b.floor.seen m.before in
@@ -235,8 +244,9 @@ unfolding IsTrue items_in
 told_now fact b h = record {
   who = refl;
   appended = sym (nothing_more b.items);
-  added = added_none b.who b.floor b.floor (record { shape = refl; alone = refl; callers = refl }) refl;
+  added = added_none b.who b.floor b.floor (record { shape = refl; alone = refl; callers = refl; order = order_same _ }) refl;
   no_jobs = refl;
+  of_channels = (tt, tt);
   was_so = λ book jobs f g. (
     seen_with b.floor.seen jobs,
     record {

@@ -1,5 +1,6 @@
 -- From what a floor of Jobs answers to what is told of it, whatever the channels beside it; and one call behind another.
 use Rattle.std.specs.Prelude.{◌≡◌, ℕ, ◌==◌, Bool, true, false, List, [], ◌∷◌, ◌++◌, map, if◌then◌else◌, refl}
+use Rattle.co_base.proofs.Orders.{order_same}
 use mathlib.Core.List.{IsPrefix}
 use Rattle.std.proofs.Common.{sym, ap, ◌∙◌, subst, append_assoc}
 use Rattle.channel_model.specs.declared.acts.Act.{Act}
@@ -26,7 +27,10 @@ use Rattle.call_meaning.specs.Telling.{Told, note, on_channels, on_jobs, JobFact
 use Rattle.call_meaning.specs.Facts.{ToldHolds, JobFactHolds, JobNoteHolds}
 use Rattle.call_meaning.specs.Stories.{Moment, IsBy, IsSo, IsTrue, story_of}
 use Rattle.call_meaning.specs.Seen.{SeenOnJobs, SeenOnBoth, channels_of, jobs_of, tree_in}
-use Rattle.call_meaning.specs.Calls.{ToldOnChannels, ToldOnJobs, ToldOnBoth, seen_by}
+use Rattle.call_meaning.specs.Orders.{HasHeard, HasTold, WasSoAlong}
+use Rattle.call_meaning.specs.Calls.{ToldOnChannels, ToldOnJobs, ToldOnBoth, seen_by, IsOfJobs}
+use Rattle.call_meaning.proofs.PointsOfMoments.{all_then, all_did}
+use Rattle.call_meaning.proofs.Along.{jobs_along, channels_along, along_after}
 use Rattle.call_meaning.proofs.Tellings.{true_later, true_sooner, true_then}
 
 -- ---- what is told, one after the other
@@ -88,6 +92,7 @@ told_nothing {rows} {a} w e h = record {
   appended = e ∙ sym (nothing_more a.items);
   added = h;
   no_channels = refl;
+  of_jobs = tt;
   was_so = λ book shape channels c d. tt;
 }
 
@@ -101,6 +106,7 @@ told_fact fact {rows} {a} {b} w e h m = record {
   appended = e ∙ sym (nothing_more a.items);
   added = h;
   no_channels = refl;
+  of_jobs = (tt, tt);
   was_so = λ book shape channels c d.
       (moment_of channels m.moment, so_at shape a.who book a.floor b.floor channels (on_jobs fact) _ m m.holds c d, tt);
 }
@@ -114,6 +120,7 @@ told_knew n {rows} {a} {b} none w e h m = record {
   appended = e;
   added = subst (λ (l : List JobAct). Added a.who l rows a.floor b.floor) (sym (ap (λ (l : List JobAct). l ++ []) none)) h;
   no_channels = refl;
+  of_jobs = (tt, tt);
   was_so = λ book shape channels c d.
       (moment_of channels m.moment, so_at shape a.who book a.floor b.floor channels (knew n) _ m m.holds c d, tt);
 }
@@ -187,6 +194,7 @@ told_dids acts {rows} {a} {b} w e h =
       appended = e ∙ ap (λ (l : List Item). a.items ++ l) (sym (items_did acts));
       added = subst (λ (l : List JobAct). Added who l rows a.floor b.floor) (sym (acts_did acts)) h;
       no_channels = ap channel_acts_in (items_did acts) ∙ no_channel_acts acts;
+      of_jobs = all_did acts;
       was_so = λ book shape channels c d.
           subst (λ (l : List JobAct). IsTrue (story_of shape who (moment_of channels b.floor.seen)) book (moment_of channels xs)
           (map did l)) own
@@ -218,6 +226,7 @@ told_then {rows} {more} {a} {b} {c} {xs} {ys} h n =
           (added_then who (job_acts_in (items_in xs)) (job_acts_in (items_in ys)) rows more a.floor b.floor c.floor h.added m.added);
       no_channels = ap channel_acts_in (items_in-append xs ys) ∙ channel_acts_in-append (items_in xs) (items_in ys)
           ∙ ap (λ (l : List Act). l ++ channel_acts_in (items_in ys)) h.no_channels ∙ m.no_channels;
+      of_jobs = all_then IsOfJobs xs ys h.of_jobs m.of_jobs;
       was_so = λ book shape channels e f.
           let e' : acts_of who channels ≡ channel_acts_in (book ++ items_in xs) =
           e ∙ sym (channel_acts_in-append book (items_in xs) ∙ ap (λ (l : List Act). channel_acts_in book ++ l) h.no_channels
@@ -243,7 +252,8 @@ told_before {rows} {a} {b} {c} {told} h w e m =
     (subst (ToldOnJobs (rows ++ []) a c) (nothing_more told) (told_then h (told_nothing w e m)))
 
 pub nobody_called : (who : ℕ) (a : Floor) → Added who [] [] a a
-nobody_called who a = added_none who a a (record { shape = refl; alone = refl; callers = refl }) refl (λ r. refl)
+nobody_called who a = added_none who a a (record { shape = refl; alone = refl; callers = refl; order = order_same _; joint = refl }) refl
+    (λ r. refl)
 
 -- and then this was so
 pub told_so : (fact : JobFact) {rows : List ℕ} {a b : SeenOnJobs} {told : List Told} → ToldOnJobs rows a b told
@@ -286,12 +296,24 @@ both_then {rows} {more} {a} {b} {c} {xs} {ys} h n =
           let later : IsTold a.channels.shape = subst IsTold h.channels.same.shape (m.was_so (book ++ items_in xs) e' f') in
           true_then a.channels.shape who (at b) (at c) book (at a) xs ys (record { channels = h.channels.longer; jobs = h.jobs.longer })
           (record { channels = m.channels.longer; jobs = m.jobs.longer }) (h.was_so book e f) later;
+      along = λ joint book e f point at.
+          let e' : acts_of who b.channels.seen ≡ channel_acts_in (book ++ items_in xs) =
+          h.channels.mine ∙ ap (λ (l : List Act). l ++ channel_acts_in (items_in xs)) e ∙ sym (channel_acts_in-append book (items_in xs)) in
+          let f' : job_acts_of who b.jobs.seen ≡ job_acts_in (book ++ items_in xs) =
+          h.jobs.mine ∙ ap (λ (l : List JobAct). l ++ job_acts_in (items_in xs)) f ∙ sym (job_acts_in-append book (items_in xs)) in
+          let first : WasSoAlong a.channels.shape who book b.channels b.jobs xs point = h.along joint book e f point at in
+          let second : WasSoAlong a.channels.shape who (book ++ items_in xs) c.channels c.jobs ys first.to =
+          subst (λ (s : Shape). WasSoAlong s who (book ++ items_in xs) c.channels c.jobs ys first.to) h.channels.same.shape
+          (m.along (h.jobs.same.joint ∙ joint) (book ++ items_in xs) e' f' first.to first.at) in
+          along_after a.channels.shape who b.channels c.channels b.jobs c.jobs book xs ys point (items_in-append xs ys)
+          m.channels.longer m.jobs.longer first second;
     }
 
--- a call on Jobs alone, while the floor of channels made no act of the caller
+-- a call on Jobs alone, of which the floor of channels was told, where both have one order; that made no act of the caller
 pub both_jobs : {rows : List ℕ} {a b : SeenOnBoth} {told : List Told} → AddedToChannels a.who [] a.channels b.channels
+    → (b.jobs.joint ≡ true → HasTold b.channels b.jobs)
     → ToldOnJobs rows (jobs_of a) (jobs_of b) told → ToldOnBoth rows a b told
-both_jobs {rows} {a} {b} {told} c h = record {
+both_jobs {rows} {a} {b} {told} c heard h = record {
   who = h.who;
   appended = h.appended;
   channels = subst (λ (l : List Act). AddedToChannels a.who l a.channels b.channels) (sym h.no_channels) c;
@@ -300,12 +322,16 @@ both_jobs {rows} {a} {b} {told} c h = record {
       true_later a.channels.shape a.who (moment_of a.channels.seen b.jobs.seen) (seen_by b.channels b.jobs) book (seen_by a.channels a.jobs)
       told
       (record { channels = c.longer; jobs = prefix_self b.jobs.seen }) (h.was_so book a.channels.shape a.channels.seen e f);
+  along = λ joint book e f point at.
+      jobs_along a.who a.channels b.channels a.jobs b.jobs rows book told point c h.added (heard (h.added.same.joint ∙ joint))
+      h.no_channels h.of_jobs e f at (h.was_so book a.channels.shape a.channels.seen e f);
 }
 
--- a call on channels alone
+-- a call on channels alone, which the floor of Jobs heard of, where both have one order
 pub both_channels : {a b : SeenOnBoth} {told : List Told} → Added a.who [] [] a.jobs b.jobs
+    → (b.jobs.joint ≡ true → HasHeard b.channels b.jobs)
     → ToldOnChannels (channels_of a) (channels_of b) told → ToldOnBoth [] a b told
-both_channels {a} {b} {told} j h = record {
+both_channels {a} {b} {told} j heard h = record {
   who = h.who;
   appended = h.appended;
   channels = h.added;
@@ -314,4 +340,7 @@ both_channels {a} {b} {told} j h = record {
       true_later a.channels.shape a.who (moment_of b.channels.seen a.jobs.seen) (seen_by b.channels b.jobs) book (seen_by a.channels a.jobs)
       told
       (record { channels = spans.prefix_self b.channels.seen; jobs = j.longer }) (h.was_so book a.jobs.seen e f);
+  along = λ joint book e f point at.
+      channels_along a.who a.channels b.channels a.jobs b.jobs [] book told point h.added j (heard (j.same.joint ∙ joint))
+      h.no_jobs h.of_channels e f at (h.was_so book a.jobs.seen e f);
 }

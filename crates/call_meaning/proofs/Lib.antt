@@ -1,4 +1,8 @@
+pub mod OrderCounts
+pub mod PointsOfMoments
+pub mod Along
 pub mod Tellings
 pub mod Prefixes
 pub mod ChannelsHeard
+pub mod HeardCalls
 pub mod JobTellings

@@ -1,6 +1,7 @@
 pub mod Telling
 pub mod Facts
 pub mod Stories
+pub mod Orders
 pub mod ChannelCalls
 pub mod JobCalls
 pub mod Endings

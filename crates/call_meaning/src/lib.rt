@@ -10,12 +10,17 @@
 //! - `Prefixes`: what a call told that broke off
 //! - `Seen`: what a caller sees, in one record for each layer
 //! - `Calls`: what a call leaves on the floors and in the book
+//! - `Orders`: that what was told was so along one order of the entries of both histories
+//!
+//! `JobsBeside` is what a caller of two floors asks of them: that each can hear what was seen on the other.
 //!
 //! The laws are the contracts of the functions of `laws`, whose bodies are empty; `proofs/Tellings.antt` shows them.
 #![tactic(auto)]
 
+mod beside;
 mod laws;
 
+pub use beside::JobsBeside;
 pub use laws::{
     what_was_told_can_be_told_of_later, what_was_told_can_be_told_since_earlier,
     what_was_told_goes_on,

@@ -1,5 +1,6 @@
 -- What becomes of an own offer that stands.
 use Rattle.std.specs.Prelude.{◌≡◌, ℕ, Bool, true, false, List, [], ◌∷◌, ◌++◌, map, Option, Some, None, is_some, Result, Ok, Err, refl}
+use Rattle.co_base.proofs.Orders.{order_then}
 use Rattle.std.specs.List.{list_all}
 use mathlib.Core.List.{IsPrefix}
 use Rattle.std.proofs.Common.{sym, ap, ◌∙◌, subst, arith}
@@ -127,7 +128,7 @@ never_open {who} {who'} {n} {v} {w} {a} {b} {d} {e} {f} l lf r h look s is m' =
     let t = Legal-last f.shape m.before last (subst (Legal f.shape) m.last lf) in
     let closed = voided_closed w.channel d l (voided_then who n w a b d e l r h look s) in
     let p = prefix_then d.seen e.seen m.before (added_made who (Settle w settled.Cancelled) d e s.0).longer m.longer in
-    let before : Floor = record { shape = f.shape; seen = m.before; spare = 0; alone = true; callers = λ x. true } in
+    let before : Floor = record { shape = f.shape; seen = m.before; spare = 0; alone = true; callers = λ x. true; order = [] } in
     let k : is_some ((replay m.before).channels w.channel).closed ≡ true = closed_lasts w.channel d before t.0 p closed in
     let none : is_some ((replay m.before).channels w.channel).closed ≡ false = ap is_some t.1.1 in
     cc
@@ -137,7 +138,12 @@ never_open {who} {who'} {n} {v} {w} {a} {b} {d} {e} {f} l lf r h look s is m' =
 -- a look behind the room that was made
 looked_roomed : (who n : ℕ) (a b d : Floor) → HasRoom n a b → Looked who b d → Looked who a d
 looked_roomed who n a b d r h = record {
-  same = record { shape = h.same.shape ∙ r.same.shape; alone = h.same.alone ∙ r.same.alone; callers = h.same.callers ∙ r.same.callers };
+  same = record {
+    shape = h.same.shape ∙ r.same.shape;
+    alone = h.same.alone ∙ r.same.alone;
+    callers = h.same.callers ∙ r.same.callers;
+    order = order_then _ _ _ r.same.order h.same.order;
+  };
   longer = subst (λ es. IsPrefix es d.seen) r.seen h.longer;
   mine = h.mine ∙ ap (acts_of who) r.seen;
   alone = λ e. h.alone (r.same.alone ∙ e) ∙ r.seen;

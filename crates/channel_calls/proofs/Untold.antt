@@ -1,5 +1,6 @@
 -- What is told of a call that made nothing, and of one that found no memory.
 use Rattle.std.specs.Prelude.{◌≡◌, List, [], ◌∷◌, ◌++◌, refl}
+use Rattle.co_base.proofs.Orders.{order_same}
 use Rattle.std.proofs.Common.{sym, ◌∙◌, subst}
 use Rattle.channel_model.specs.Floors.{Floor, Looked, AtStep, Added}
 use Rattle.channel_model.proofs.Others.{between}
@@ -21,8 +22,9 @@ unfolding IsTrue items_in
 told_none a = record {
   who = refl;
   appended = sym (nothing_more a.items);
-  added = added_none a.who a.floor a.floor (record { shape = refl; alone = refl; callers = refl }) refl;
+  added = added_none a.who a.floor a.floor (record { shape = refl; alone = refl; callers = refl; order = order_same _ }) refl;
   no_jobs = refl;
+  of_channels = tt;
   was_so = λ book jobs f g. tt;
 }
 
@@ -33,6 +35,7 @@ told_looked {a} {b} h w e = record {
   appended = e ∙ sym (nothing_more a.items);
   added = added_looked a.who a.floor b.floor h;
   no_jobs = refl;
+  of_channels = tt;
   was_so = λ book jobs f g. tt;
 }
 
@@ -46,6 +49,7 @@ told_seen fact {a} {b} h m w e = record {
   appended = e ∙ sym (nothing_more a.items);
   added = added_looked a.who a.floor b.floor h;
   no_jobs = refl;
+  of_channels = (tt, tt);
   was_so = λ book known f g. (
     record { channels = m.moment; jobs = known },
     record {
@@ -65,12 +69,13 @@ told_seen fact {a} {b} h m w e = record {
 pub untouched_told : {a b : SeenOnChannels} → IsUntouched a b → ToldOnChannels a b []
 unfolding IsTrue items_in
 untouched_told {a} {b} h =
-    let none = added_none a.who a.floor a.floor (record { shape = refl; alone = refl; callers = refl }) refl in
+    let none = added_none a.who a.floor a.floor (record { shape = refl; alone = refl; callers = refl; order = order_same _ }) refl in
     record {
       who = h.who;
       appended = h.book ∙ sym (nothing_more a.items);
       added = subst (λ (x : Floor). Added a.who [] a.floor x) (sym h.floor) none;
       no_jobs = refl;
+      of_channels = tt;
       was_so = λ book jobs f g. tt;
     }
 

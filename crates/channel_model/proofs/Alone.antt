@@ -1,5 +1,6 @@
 -- Calls of a floor that nobody else calls: the answers' words hold of it.
 use Rattle.std.specs.Prelude.{◌≡◌, ℕ, ◌+◌, ◌≤◌, true, List, [], ◌∷◌, ◌++◌, refl}
+use Rattle.co_base.proofs.Orders.{order_same}
 use Rattle.std.proofs.Common.{sym, subst, arith}
 use Rattle.channel_model.specs.declared.acts.Act.{Act}
 use Rattle.channel_model.specs.declared.acts.Entry.{Entry}
@@ -16,12 +17,12 @@ recorded_legal shape es es' e h is k = subst (Legal shape) (sym is) (Legal_push 
 
 -- a floor that every tag may call
 abbrev pub floor : Shape → List Entry → ℕ → Floor
-floor shape es n = record { shape = shape; seen = es; spare = n; alone = true; callers = λ t. true }
+floor shape es n = record { shape = shape; seen = es; spare = n; alone = true; callers = λ t. true; order = [] }
 
 abbrev pub made_alone : (shape : Shape) (who : ℕ) (act : Act) (es es' : List Entry) (m n : ℕ) → es' ≡ es
     ++ record { who = who; act = act } ∷ [] → m ≤ n + 1 → Made who act (floor shape es m) (floor shape es' n)
 made_alone shape who act es es' m n is le = record {
-  same = record { shape = refl; alone = refl; callers = refl };
+  same = record { shape = refl; alone = refl; callers = refl; order = order_same _ };
   before = es;
   longer = ([], nothing_more es);
   mine = refl;
@@ -32,7 +33,7 @@ made_alone shape who act es es' m n is le = record {
 
 abbrev pub looked_alone : (shape : Shape) (who : ℕ) (es : List Entry) (m : ℕ) → Looked who (floor shape es m) (floor shape es m)
 looked_alone shape who es m = record {
-  same = record { shape = refl; alone = refl; callers = refl };
+  same = record { shape = refl; alone = refl; callers = refl; order = order_same _ };
   longer = ([], nothing_more es);
   mine = refl;
   alone = λ e. refl;

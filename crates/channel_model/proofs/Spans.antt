@@ -1,6 +1,7 @@
 -- What several calls of one caller add to what was seen.
 use Rattle.std.specs.Prelude.{◌≡◌, ℕ, true, List, [], ◌∷◌, ◌++◌, refl, ◌==◌, if◌then◌else◌}
 use mathlib.Core.List.{IsPrefix}
+use Rattle.co_base.proofs.Orders.{order_then}
 use Rattle.std.proofs.Common.{sym, ap, ◌∙◌, append_assoc, arith}
 use Rattle.std.proofs.lemmas.Bool.Decides.{nat_tests}
 use Rattle.channel_model.specs.declared.acts.Act.{Act}
@@ -24,7 +25,12 @@ pub prefix_append : (xs ys zs : List Entry) → IsPrefix xs ys → IsPrefix xs (
 prefix_append xs ys zs h = prefix_then xs ys (ys ++ zs) h (zs, refl)
 
 pub setting_then : (a b c : Floor) → SameSetting a b → SameSetting b c → SameSetting a c
-setting_then a b c h k = record { shape = k.shape ∙ h.shape; alone = k.alone ∙ h.alone; callers = k.callers ∙ h.callers }
+setting_then a b c h k = record {
+  shape = k.shape ∙ h.shape;
+  alone = k.alone ∙ h.alone;
+  callers = k.callers ∙ h.callers;
+  order = order_then a.order b.order c.order h.order k.order;
+}
 
 pub added_none : (who : ℕ) (old new : Floor) → SameSetting old new → new.seen ≡ old.seen → Added who [] old new
 added_none who old new same e = record {

@@ -1,6 +1,7 @@
 -- What callers see of a floor of channels, and what a call adds to it.
 use Rattle.std.specs.Prelude.{◌≡◌, ℕ, ◌+◌, ◌<◌, ◌≤◌, Bool, true, List, [], ◌∷◌, ◌++◌, length, map}
 use mathlib.Core.List.{IsPrefix}
+use Rattle.co_base.specs.Orders.{Side}
 use Rattle.channel_model.specs.declared.acts.Act.{Act}
 use Rattle.channel_model.specs.declared.acts.Entry.{Entry}
 use Rattle.channel_model.specs.Channels.{Shape, State}
@@ -17,12 +18,15 @@ pub record Floor : Type 0 where
   pub alone : Bool
   -- the tags that may call
   pub callers : ℕ → Bool
+  -- the order of the entries of both histories, as far as it is known here
+  pub order : List Side
 
--- what no call changes
+-- what no call changes, and the order, which goes on
 pub record SameSetting (old new : Floor) : Type 0 where
   pub shape : new.shape ≡ old.shape
   pub alone : new.alone ≡ old.alone
   pub callers : new.callers ≡ old.callers
+  pub order : IsPrefix old.order new.order
 
 -- room was made, and nothing else changed
 pub record HasRoom (n : ℕ) (old new : Floor) : Type 0 where

@@ -1,21 +1,19 @@
 //! To end Jobs of a forest, from one upwards.
-ghost use Rattle.std.specs.Prelude.{◌≡◌, is_some, true};
-ghost use Rattle.job_model.specs.Histories.{replay};
+ghost use Rattle.std.specs.Prelude.{◌≡◌};
 ghost use Rattle.job_model.specs.Floors.{MayCall};
 ghost use Rattle.call_meaning.specs.Seen.{seen_jobs};
 ghost use Rattle.job_tree.specs.Endings.{seen_with, IsFinishedUp};
 ghost use Rattle.job_words.specs.Forests.{IsOwn, SameGiving};
 ghost use Rattle.job_words.specs.Rangers.{ranger_floor, ranger_anchor};
-ghost use Rattle.forest_calls.specs.Passes.{pass_floor};
 
 use co_base::{Memory, Row, Tag, Wakes};
 use job_model::JobFloor;
 use job_tree::{Ends, JobCaller};
-use job_words::{Forest, JobPass, Ranger};
+use job_words::Ranger;
 use note_book::NoteBook;
 
 /// Ends Jobs upwards, over any floor.
-fn finish_over<J: JobFloor, B: NoteBook, W: Wakes, E: Ends<B, W>>(
+fn finish_over<J: JobFloor, B: NoteBook, W: Wakes, E: Ends<J, B, W>>(
     jobs: &mut J,
     book: &mut B,
     wakes: &mut W,
@@ -25,7 +23,7 @@ fn finish_over<J: JobFloor, B: NoteBook, W: Wakes, E: Ends<B, W>>(
 ) -> Result<(), Memory>
     requires can { MayCall who row (J.view jobs.old) }
     ensures anchor { J.anchor jobs.new ≡ J.anchor jobs.old }
-    ensures finished { IsFinishedUp E.prepares E.does row (seen_with (seen_jobs J.view B.items who jobs.old book.old) ends.old)
+    ensures finished { IsFinishedUp E.prepares E.does E.leaves row (seen_with (seen_jobs J.view B.items who jobs.old book.old) ends.old)
         (seen_with (seen_jobs J.view B.items who jobs.new book.new) ends.new) result }
 {
     let mut caller = JobCaller {
@@ -37,9 +35,12 @@ fn finish_over<J: JobFloor, B: NoteBook, W: Wakes, E: Ends<B, W>>(
     caller.finish_up(row, ends)
 }
 
-/// Ends Jobs upwards, on the floor of one pass.
-fn finish_on<B: NoteBook, W: Wakes, E: Ends<B, W>>(
-    ranger: &mut Ranger<'_>,
+/// Ends a Job, where it may end, and then its parents, as far as the end of a child was all that they waited for.
+/// Memory: what was done so far stands and is noted.
+///
+/// It is on a `Ranger`, since what a caller does where a Job ends may hear of the floor.
+pub fn finish_up<'a, B: NoteBook, W: Wakes, E: Ends<Ranger<'a>, B, W>>(
+    ranger: &mut Ranger<'a>,
     book: &mut B,
     wakes: &mut W,
     who: Tag,
@@ -50,30 +51,8 @@ fn finish_on<B: NoteBook, W: Wakes, E: Ends<B, W>>(
     ensures anchor { ranger_anchor ranger.new ≡ ranger_anchor ranger.old }
     ensures own { IsOwn ranger.old.forest.now ranger.new.pass.now who }
     ensures giving { SameGiving ranger.old.pass.now ranger.new.pass.now }
-    ensures finished { IsFinishedUp E.prepares E.does row (seen_with (seen_jobs ranger_floor B.items who ranger.old book.old) ends.old)
+    ensures finished { IsFinishedUp E.prepares E.does E.leaves row (seen_with (seen_jobs ranger_floor B.items who ranger.old book.old) ends.old)
         (seen_with (seen_jobs ranger_floor B.items who ranger.new book.new) ends.new) result }
 {
     finish_over(ranger, book, wakes, who, row, ends)
-}
-
-/// Ends a Job, where it may end, and then its parents, as far as the end of a child was all that they waited for.
-/// Memory: what was done so far stands and is noted.
-pub fn finish_up<B: NoteBook, W: Wakes, E: Ends<B, W>>(
-    forest: &Forest,
-    pass: &mut JobPass,
-    book: &mut B,
-    wakes: &mut W,
-    who: Tag,
-    row: Row,
-    ends: &mut E,
-) -> Result<(), Memory>
-    requires own { IsOwn forest.now pass.old who }
-    requires attached { is_some (replay (pass_floor pass.old).seen row) ≡ true }
-    ensures own { IsOwn forest.now pass.new who }
-    ensures giving { SameGiving pass.old pass.new }
-    ensures finished { IsFinishedUp E.prepares E.does row (seen_with (seen_jobs pass_floor B.items who pass.old book.old) ends.old)
-        (seen_with (seen_jobs pass_floor B.items who pass.new book.new) ends.new) result }
-{
-    let mut ranger = Ranger { forest, pass };
-    finish_on(&mut ranger, book, wakes, who, row, ends)
 }

@@ -1,6 +1,7 @@
 -- What several calls of one caller add to what was seen.
 use Rattle.std.specs.Prelude.{◌≡◌, ℕ, ◌==◌, Bool, true, false, ◌||◌, List, [], ◌∷◌, ◌++◌, length, Option, Some, None, if◌then◌else◌, refl}
 use mathlib.Core.List.{IsPrefix}
+use Rattle.co_base.proofs.Orders.{order_then}
 use Rattle.std.proofs.Common.{sym, ap, ◌∙◌, append_assoc, arith, length-append}
 use Rattle.std.proofs.Math.Bool.{or_assoc}
 use Rattle.std.proofs.lemmas.Bool.Decides.{nat_tests}
@@ -26,7 +27,13 @@ pub prefix_append : (xs ys zs : List JobEntry) → IsPrefix xs ys → IsPrefix x
 prefix_append xs ys zs h = prefix_then xs ys (ys ++ zs) h (zs, refl)
 
 pub setting_then : (a b c : Floor) → SameSetting a b → SameSetting b c → SameSetting a c
-setting_then a b c h k = record { shape = k.shape ∙ h.shape; alone = k.alone ∙ h.alone; callers = k.callers ∙ h.callers }
+setting_then a b c h k = record {
+  shape = k.shape ∙ h.shape;
+  alone = k.alone ∙ h.alone;
+  callers = k.callers ∙ h.callers;
+  order = order_then a.order b.order c.order h.order k.order;
+  joint = k.joint ∙ h.joint;
+}
 
 -- ---- claims
 

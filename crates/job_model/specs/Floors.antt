@@ -1,6 +1,7 @@
 -- What callers see of a floor of Jobs, and what a call adds to it.
 use Rattle.std.specs.Prelude.{◌≡◌, ℕ, ◌+◌, ◌==◌, ◌≤◌, Bool, true, false, ◌||◌, List, [], ◌∷◌, ◌++◌, Option, Some, None, map, is_some, if◌then◌else◌}
 use mathlib.Core.List.{IsPrefix}
+use Rattle.co_base.specs.Orders.{Side}
 use Rattle.job_model.specs.declared.acts.JobAct.{JobAct}
 use Rattle.job_model.specs.declared.acts.JobEntry.{JobEntry}
 use Rattle.job_model.specs.Trees.{Shape, Tree, is_among}
@@ -18,14 +19,20 @@ pub record Floor : Type 0 where
   pub alone : Bool
   -- the tags that may call
   pub callers : ℕ → Bool
+  -- the order of the entries of both histories, as far as it is known here
+  pub order : List Side
+  -- the order is that of the entries here and on the floor of channels that the same callers call
+  pub joint : Bool
   -- the rows that were seen claimed, each with the tag that claimed it
   pub claims : ℕ → Option ℕ
 
--- what no call changes
+-- what no call changes, and the order, which goes on
 pub record SameSetting (old new : Floor) : Type 0 where
   pub shape : new.shape ≡ old.shape
   pub alone : new.alone ≡ old.alone
   pub callers : new.callers ≡ old.callers
+  pub order : IsPrefix old.order new.order
+  pub joint : new.joint ≡ old.joint
 
 -- room was made, and nothing else changed
 pub record HasRoom (n : ℕ) (old new : Floor) : Type 0 where

@@ -1,11 +1,12 @@
 -- The end of one Job, and of its parents.
 use Rattle.std.specs.Prelude.{◌≡◌, ◌≢◌, ℕ, Bool, true, false, List, [], ◌∷◌, ◌++◌, Option, Some, None, Result, Ok, Err, option_map, is_some, refl}
+use Rattle.co_base.proofs.Orders.{order_same}
 use mathlib.Core.List.{IsPrefix}
 use Rattle.std.proofs.Common.{sym, ap, ◌∙◌, subst, append_assoc}
 use Rattle.co_base.specs.declared.names.Memory.{Memory}
 use Rattle.job_model.specs.declared.acts.End.{End}
 use Rattle.job_model.specs.declared.acts.JobAct.{JobAct}
-use Rattle.job_model.specs.declared.acts.JobAct.TheVariants.{Finish, Gone}
+use Rattle.job_model.specs.declared.acts.JobAct.TheVariants.{Finish}
 use Rattle.job_model.specs.declared.acts.JobEntry.{JobEntry}
 use Rattle.job_model.specs.declared.floor.Finished.{Finished}
 use Rattle.job_model.specs.declared.floor.Finished.TheVariants as finished
@@ -22,10 +23,9 @@ use Rattle.job_model.proofs.Spans.{nothing_more, prefix_then, added_looked, adde
 use Rattle.job_model.proofs.Families.{changed_here, replay_families}
 use Rattle.job_model.proofs.RowMarks.{live_before}
 use Rattle.job_model.proofs.Ends.{told_only}
+use Rattle.job_model.proofs.Own.{own_gone_kept}
 use Rattle.note_book.specs.declared.book.Item.{Item}
-use Rattle.note_book.specs.Items.{job_acts_in}
 use Rattle.call_meaning.specs.Seen.{SeenOnJobs, tree_in}
-use Rattle.job_tree.specs.Notes.{made_note}
 use Rattle.job_tree.specs.Endings.{SeenWith, IsEndedBy, MayNotEnd, EndAnswer, IsFinishedUp}
 use Rattle.job_tree.specs.declared.ends.Rise.{Rise}
 use Rattle.job_tree.specs.declared.ends.Rise.TheVariants as rise
@@ -69,6 +69,15 @@ may_tell who row end a b l m z =
     let is : replay b.seen ≡ after tree who (Finish row end) = ap replay m.last ∙ replay_push m.before entry in
     subst (MayTell who row) (sym is) (by, untold_after b.shape tree who row end fam parts.1, z)
 
+-- and still may where others made entries of their own
+pub may_tell_later : (who row : ℕ) (a b : Floor) → Legal b.shape b.seen → Looked who [] a b → MayTell who row (replay a.seen)
+    → MayTell who row (replay b.seen)
+may_tell_later who row a b l h m = own_gone_kept who row [] [] a b l (added_looked who [] a b h) refl m
+
+-- the caller still is one
+pub caller_still : (who : ℕ) (a b : Floor) → SameSetting a b → a.callers who ≡ true → b.callers who ≡ true
+caller_still who a b same c = ap (λ (f : ℕ → Bool). f who) same.callers ∙ c
+
 -- ---- what was added
 
 pub added_same : (who : ℕ) (a b : Floor) → b ≡ a → Added who [] [] a b
@@ -77,10 +86,14 @@ added_same who a b e = subst (λ x. Added who [] [] a x) (sym e) (added_looked w
 pub added_end : (who n : ℕ) (act : JobAct) (a b c : Floor) → HasRoom n a b → Made who act [] b c → Added who (act ∷ []) [] a c
 added_end who n act a b c h m = added_then who [] (act ∷ []) [] [] a b c (added_room who n a b h) (added_made who act [] b c m)
 
-pub added_told : (who n : ℕ) (act act' : JobAct) (a b c d : Floor) → HasRoom n a b → Made who act [] b c → Made who act' [] c d
-    → Added who (act ∷ act' ∷ []) [] a d
-added_told who n act act' a b c d h m k = added_then who (act ∷ []) (act' ∷ []) [] [] a c d (added_end who n act a b c h m)
-    (added_made who act' [] c d k)
+-- the same floor by another name
+pub added_as : (who : ℕ) (acts : List JobAct) {a b c : Floor} → c ≡ b → Added who acts [] a b → Added who acts [] a c
+added_as who acts {a} e h = subst (λ x. Added who acts [] a x) (sym e) h
+
+-- and what others then did was seen
+pub added_on_look : (who : ℕ) (acts : List JobAct) (a b c : Floor) → Added who acts [] a b → Looked who [] b c → Added who acts [] a c
+added_on_look who acts a b c h k =
+    subst (λ (l : List JobAct). Added who l [] a c) (nothing_more acts) (added_then who acts [] [] [] a b c h (added_looked who [] b c k))
 
 pub added_linked : (who : ℕ) (act : JobAct) (a b c : Floor) → Made who act [] a b → Looked who [] b c → Added who (act ∷ []) [] a c
 added_linked who act a b c h k = added_then who (act ∷ []) [] [] [] a b c (added_made who act [] a b h) (added_looked who [] b c k)
@@ -93,56 +106,25 @@ pub appended_end : (ended : List Item) (fin : Item) {items ready noted after : L
 appended_end ended fin {items} e f g =
     g ∙ ap (λ (l : List Item). l ++ ended) (f ∙ ap (λ (l : List Item). l ++ fin ∷ []) e) ∙ append_assoc items (fin ∷ []) ended
 
+-- and the word to the parent
+pub appended_word : (fin gone : Item) (items ended : List Item) {noted after : List Item} → noted ≡ items ++ (fin ∷ ended)
+    → after ≡ noted ++ gone ∷ [] → after ≡ items ++ (fin ∷ (ended ++ gone ∷ []))
+appended_word fin gone items ended e f = f ∙ ap (λ (l : List Item). l ++ gone ∷ []) e ∙ append_assoc items (fin ∷ ended) (gone ∷ [])
+
+pub appended_none : (fin : Item) (items ended : List Item) {noted : List Item} → noted ≡ items ++ (fin ∷ ended)
+    → noted ≡ items ++ (fin ∷ (ended ++ []))
+appended_none fin items ended e = e ∙ ap (λ (l : List Item). items ++ fin ∷ l) (sym (nothing_more ended))
+
 -- ---- answers
 
--- the Job was finished, and its end did what it does
-pub root_ended : {T : Type 0} {prepares : T → T → Type 0} {does : T → ℕ → End → List Item → T → Type 0} {row : ℕ} (end : End) (ready : T)
-    (ended : List Item) {a b : SeenWith T} → prepares a.ends ready → Added a.seen.who (Finish row end ∷ []) [] a.seen.floor b.seen.floor
-    → does ready row end ended b.ends → job_acts_in ended ≡ [] → b.seen.who ≡ a.seen.who
-    → b.seen.items ≡ a.seen.items ++ (made_note (Finish row end) ∷ ended) → IsEndedBy prepares does row [] a b
-root_ended {row = row} end ready ended {a} {b} p added d none w e = record {
-  end = end;
-  ready = ready;
-  ended = ended;
-  between = b.seen.floor;
-  prepared = p;
-  finished = added;
-  does_it = d;
-  no_jobs = none;
-  word = added_looked a.seen.who [] b.seen.floor b.seen.floor (looked_self a.seen.who b.seen.floor);
-  who = w;
-  appended = e ∙ ap (λ (l : List Item). a.seen.items ++ made_note (Finish row end) ∷ l) (sym (nothing_more ended));
-}
-
--- and then its parent was told
-pub told_by : {T : Type 0} {prepares : T → T → Type 0} {does : T → ℕ → End → List Item → T → Type 0} {row : ℕ} {a b c : SeenWith T}
-    → IsEndedBy prepares does row [] a b → Added a.seen.who (Gone row ∷ []) [] b.seen.floor c.seen.floor → c.ends ≡ b.ends
-    → c.seen.who ≡ a.seen.who → c.seen.items ≡ b.seen.items ++ made_note (Gone row) ∷ [] → IsEndedBy prepares does row (Gone row ∷ []) a c
-told_by {does = does} {row = row} {a = a} {b = b} {c = c} h word same w e =
-    let fin : Item = made_note (Finish row h.end) in
-    let gone : Item = made_note (Gone row) in
-    let before : b.seen.items ≡ a.seen.items ++ (fin ∷ h.ended) = h.appended
-    ∙ ap (λ (l : List Item). a.seen.items ++ fin ∷ l) (nothing_more h.ended) in
-    record {
-      end = h.end;
-      ready = h.ready;
-      ended = h.ended;
-      between = h.between;
-      prepared = h.prepared;
-      finished = h.finished;
-      does_it = subst (does h.ready row h.end h.ended) (sym same) h.does_it;
-      no_jobs = h.no_jobs;
-      word = added_then a.seen.who [] (Gone row ∷ []) [] [] h.between b.seen.floor c.seen.floor h.word word;
-      who = w;
-      appended = e ∙ ap (λ (l : List Item). l ++ gone ∷ []) before ∙ append_assoc a.seen.items (fin ∷ h.ended) (gone ∷ []);
-    }
-
 -- all acts of the end of a Job
-pub end_added : {T : Type 0} {prepares : T → T → Type 0} {does : T → ℕ → End → List Item → T → Type 0} {row : ℕ} {told : List JobAct}
-    {a b : SeenWith T} → (h : IsEndedBy prepares does row told a b)
+pub end_added : {T : Type 0} {prepares : T → T → Type 0} {does : T → Floor → ℕ → End → List Item → T → Floor → Type 0} {leaves : T → T
+    → Floor → Type 0} {row : ℕ} {told : List JobAct}
+    {a b : SeenWith T} → (h : IsEndedBy prepares does leaves row told a b)
     → Added a.seen.who (Finish row h.end ∷ told) [] a.seen.floor b.seen.floor
 end_added {row = row} {told = told} {a = a} {b = b} h =
-    added_then a.seen.who (Finish row h.end ∷ []) told [] [] a.seen.floor h.between b.seen.floor h.finished h.word
+    added_then a.seen.who (Finish row h.end ∷ []) told [] [] a.seen.floor h.after b.seen.floor
+    (added_then a.seen.who (Finish row h.end ∷ []) [] [] [] a.seen.floor h.between h.after h.finished h.looked) h.word
 
 -- the Job was not ended
 pub record WasNotNow (row : ℕ) (a c : SeenOnJobs) : Type 0 where
@@ -166,14 +148,21 @@ was_not_now row n a b c finished.NotYet h never k = record {
 
 -- ---- the parent
 
-pub owed_at : {row : ℕ} {a b c d x : Floor} {who n : ℕ} {act act' : JobAct} → HasRoom n a b → Made who act [] b c → Made who act' [] c d
-    → IsPrefix d.seen x.seen → is_done (parent_row (replay d.seen) row) ≡ true → AtStep a x (λ tree. is_done (parent_row tree row) ≡ true)
-owed_at {row} {a} {b} {c} {d} {x} {who} {n} {act} {act'} h m k p e = record {
-  moment = d.seen;
-  after = (added_told who n act act' a b c d h m k).longer;
-  before = p;
-  holds = e;
-}
+pub owed_at : (row : ℕ) (a d x : Floor) → IsPrefix a.seen d.seen → IsPrefix d.seen x.seen → is_done (parent_row (replay d.seen) row) ≡ true
+    → AtStep a x (λ tree. is_done (parent_row tree row) ≡ true)
+owed_at row a d x q p e = record { moment = d.seen; after = q; before = p; holds = e }
+
+-- ---- the same floor by another name
+
+pub finish_as : (who row : ℕ) (a : Floor) (r : Finished) {b c : Floor} → c ≡ b → FinishAnswer who row a b r → FinishAnswer who row a c r
+finish_as who row a r e h = subst (λ f. FinishAnswer who row a f r) (sym e) h
+
+pub idle_as : (row : ℕ) {b c : Floor} {done : Bool} → c ≡ b → is_done (parent_row (replay b.seen) row) ≡ done
+    → is_done (parent_row (replay c.seen) row) ≡ done
+idle_as row e h = ap (λ f. is_done (parent_row (replay f.seen) row)) e ∙ h
+
+pub prefix_as : (xs : List JobEntry) {b c : Floor} → c ≡ b → IsPrefix xs b.seen → IsPrefix xs c.seen
+prefix_as xs e h = subst (λ f. IsPrefix xs f.seen) (sym e) h
 
 -- ---- the parents
 
@@ -184,25 +173,36 @@ pub record IsOwed (row p : ℕ) (a b : SeenOnJobs) : Type 0 where
   pub added : Added a.who acts [] a.floor b.floor
   pub parent : parent_of (tree_in b row) ≡ Some p
 
-pub owed : {T : Type 0} {prepares : T → T → Type 0} {does : T → ℕ → End → List Item → T → Type 0} {row p : ℕ} {a b : SeenWith T}
-    → EndAnswer prepares does row a b (Ok (rise.To p)) → IsOwed row p a.seen b.seen
+pub owed : {T : Type 0} {prepares : T → T → Type 0} {does : T → Floor → ℕ → End → List Item → T → Floor → Type 0} {leaves : T → T → Floor
+    → Type 0} {row p : ℕ} {a b : SeenWith T}
+    → EndAnswer prepares does leaves row a b (Ok (rise.To p)) → IsOwed row p a.seen b.seen
 owed (EndAnswer.owes _ z h q m) = record { acts = _; who = h.who; added = end_added h; parent = q }
 
 -- the ends so far, up to this row
-pub record IsRise {T : Type 0} (prepares : T → T → Type 0) (does : T → ℕ → End → List Item → T → Type 0) (row at : ℕ) (a b : SeenWith T)
+pub record IsRise {T : Type 0} (prepares : T → T → Type 0) (does : T → Floor → ℕ → End → List Item → T → Floor → Type 0) (leaves : T → T
+    → Floor → Type 0) (row at : ℕ) (a b : SeenWith T)
     : Type 0 where
   pub who : b.seen.who ≡ a.seen.who
   pub same : SameSetting a.seen.floor b.seen.floor
   pub attached : is_some (tree_in b.seen at) ≡ true
-  pub on : (c : SeenWith T) (r : Result (Unit {0}) Memory) → IsFinishedUp prepares does at b c r → IsFinishedUp prepares does row a c r
+  pub on : (c : SeenWith T) (r : Result (Unit {0}) Memory) → IsFinishedUp prepares does leaves at b c r
+      → IsFinishedUp prepares does leaves row a c r
 
-pub first_rise : {T : Type 0} {prepares : T → T → Type 0} {does : T → ℕ → End → List Item → T → Type 0} {row : ℕ} {a : SeenWith T}
-    → is_some (tree_in a.seen row) ≡ true → IsRise prepares does row row a a
-first_rise s = record { who = refl; same = record { shape = refl; alone = refl; callers = refl }; attached = s; on = λ c r h. h }
+pub first_rise : {T : Type 0} {prepares : T → T → Type 0} {does : T → Floor → ℕ → End → List Item → T → Floor → Type 0} {leaves : T → T
+    → Floor → Type 0} {row : ℕ} {a : SeenWith T}
+    → is_some (tree_in a.seen row) ≡ true → IsRise prepares does leaves row row a a
+first_rise s = record {
+  who = refl;
+  same = record { shape = refl; alone = refl; callers = refl; order = order_same _; joint = refl };
+  attached = s;
+  on = λ c r h. h;
+}
 
-pub rise_up : {T : Type 0} {prepares : T → T → Type 0} {does : T → ℕ → End → List Item → T → Type 0} {row at p : ℕ} {a b c : SeenWith T}
-    → Legal c.seen.floor.shape c.seen.floor.seen → IsRise prepares does row at a b → EndAnswer prepares does at b c (Ok (rise.To p))
-    → IsRise prepares does row p a c
+pub rise_up : {T : Type 0} {prepares : T → T → Type 0} {does : T → Floor → ℕ → End → List Item → T → Floor → Type 0} {leaves : T → T → Floor
+    → Type 0} {row at p : ℕ} {a b c : SeenWith T}
+    → Legal c.seen.floor.shape c.seen.floor.seen → IsRise prepares does leaves row at a b
+    → EndAnswer prepares does leaves at b c (Ok (rise.To p))
+    → IsRise prepares does leaves row p a c
 rise_up {at = at} {p = p} {a = a} {b = b} {c = c} l h m =
     let o = owed m in
     record {
@@ -212,19 +212,23 @@ rise_up {at = at} {p = p} {a = a} {b = b} {c = c} l h m =
       on = λ d r u. h.on d r (IsFinishedUp.goes_up at p b c d r m u);
     }
 
-pub rise_stops : {T : Type 0} {prepares : T → T → Type 0} {does : T → ℕ → End → List Item → T → Type 0} {row at : ℕ} {a b c : SeenWith T}
-    → IsRise prepares does row at a b → EndAnswer prepares does at b c (Ok rise.Stops) → IsFinishedUp prepares does row a c (Ok tt)
+pub rise_stops : {T : Type 0} {prepares : T → T → Type 0} {does : T → Floor → ℕ → End → List Item → T → Floor → Type 0} {leaves : T → T
+    → Floor → Type 0} {row at : ℕ} {a b c : SeenWith T}
+    → IsRise prepares does leaves row at a b → EndAnswer prepares does leaves at b c (Ok rise.Stops)
+    → IsFinishedUp prepares does leaves row a c (Ok tt)
 rise_stops {at = at} {b = b} {c = c} h m = h.on c (Ok tt) (IsFinishedUp.stops at b c m)
 
-pub rise_fails : {T : Type 0} {prepares : T → T → Type 0} {does : T → ℕ → End → List Item → T → Type 0} {row at : ℕ} {a b c : SeenWith T}
-    {memory : Memory} → IsRise prepares does row at a b → EndAnswer prepares does at b c (Err memory)
-    → IsFinishedUp prepares does row a c (Err memory)
+pub rise_fails : {T : Type 0} {prepares : T → T → Type 0} {does : T → Floor → ℕ → End → List Item → T → Floor → Type 0} {leaves : T → T
+    → Floor → Type 0} {row at : ℕ} {a b c : SeenWith T}
+    {memory : Memory} → IsRise prepares does leaves row at a b → EndAnswer prepares does leaves at b c (Err memory)
+    → IsFinishedUp prepares does leaves row a c (Err memory)
 rise_fails {at = at} {b = b} {c = c} {memory = memory} h m = h.on c (Err memory) (IsFinishedUp.no_memory memory at b c m)
 
-pub same_answer : {T : Type 0} {prepares : T → T → Type 0} {does : T → ℕ → End → List Item → T
-    → Type 0} {row : ℕ} {a b : SeenWith T} {x y : Rise}
-    → x ≡ y → EndAnswer prepares does row a b (Ok x) → EndAnswer prepares does row a b (Ok y)
-same_answer {prepares = prepares} {does = does} {row = row} {a = a} {b = b} h k = subst (λ r. EndAnswer prepares does row a b (Ok r)) h k
+pub same_answer : {T : Type 0} {prepares : T → T → Type 0} {does : T → Floor → ℕ → End → List Item → T → Floor → Type 0} {leaves : T → T
+    → Floor → Type 0} {row : ℕ} {a b : SeenWith T} {x y : Rise}
+    → x ≡ y → EndAnswer prepares does leaves row a b (Ok x) → EndAnswer prepares does leaves row a b (Ok y)
+same_answer {prepares = prepares} {does = does} {leaves = leaves} {row = row} {a = a} {b = b} h k =
+    subst (λ r. EndAnswer prepares does leaves row a b (Ok r)) h k
 
 -- ---- what all of it added
 
@@ -234,8 +238,9 @@ pub record HasAdded (a b : SeenOnJobs) : Type 0 where
   pub who : b.who ≡ a.who
   pub added : Added a.who acts [] a.floor b.floor
 
-answer_added : {T : Type 0} {prepares : T → T → Type 0} {does : T → ℕ → End → List Item → T → Type 0} {row : ℕ} {a b : SeenWith T}
-    {r : Result Rise Memory} → EndAnswer prepares does row a b r → HasAdded a.seen b.seen
+answer_added : {T : Type 0} {prepares : T → T → Type 0} {does : T → Floor → ℕ → End → List Item → T → Floor → Type 0} {leaves : T → T
+    → Floor → Type 0} {row : ℕ} {a b : SeenWith T}
+    {r : Result Rise Memory} → EndAnswer prepares does leaves row a b r → HasAdded a.seen b.seen
 answer_added (EndAnswer.no_memory _ h) = record { acts = []; who = h.who; added = h.added }
 answer_added (EndAnswer.not_now h m) = record { acts = []; who = h.who; added = h.added }
 answer_added (EndAnswer.root z h) = record { acts = _; who = h.who; added = end_added h }
@@ -251,8 +256,9 @@ added_on {a} {b} {c} h k =
       added = added_then a.who h.acts k.acts [] [] a.floor b.floor c.floor h.added more;
     }
 
-pub finished_added : {T : Type 0} {prepares : T → T → Type 0} {does : T → ℕ → End → List Item → T → Type 0} {row : ℕ} {a b : SeenWith T}
-    {r : Result (Unit {0}) Memory} → IsFinishedUp prepares does row a b r → HasAdded a.seen b.seen
+pub finished_added : {T : Type 0} {prepares : T → T → Type 0} {does : T → Floor → ℕ → End → List Item → T → Floor → Type 0} {leaves : T → T
+    → Floor → Type 0} {row : ℕ} {a b : SeenWith T}
+    {r : Result (Unit {0}) Memory} → IsFinishedUp prepares does leaves row a b r → HasAdded a.seen b.seen
 finished_added (IsFinishedUp.stops _ _ _ h) = answer_added h
 finished_added (IsFinishedUp.no_memory m _ _ _ h) = answer_added h
 finished_added (IsFinishedUp.goes_up _ p a b c r h more) = added_on (answer_added h) (finished_added more)

@@ -1,5 +1,6 @@
 -- What a look at a Job says of it from then on.
 use Rattle.std.specs.Prelude.{◌≡◌, ℕ, ◌<◌, Bool, true, false, List, [], ◌∷◌, ◌++◌, Option, Some, None, is_some, option_map, refl}
+use Rattle.co_base.proofs.Orders.{order_same}
 use mathlib.Core.List.{IsPrefix}
 use Rattle.std.proofs.Common.{sym, ap, ◌∙◌, subst, arith}
 use Rattle.job_model.specs.declared.acts.Reason.{Reason}
@@ -64,7 +65,7 @@ looked_then who a b c h k = record {
 
 pub looked_self : (who : ℕ) (a : Floor) → Looked who [] a a
 looked_self who a = record {
-  same = record { shape = refl; alone = refl; callers = refl };
+  same = record { shape = refl; alone = refl; callers = refl; order = order_same _; joint = refl };
   longer = prefix_self a.seen;
   mine = refl;
   alone =

@@ -51,19 +51,33 @@ pub record IsPrepared {T : Type 0} (prepares : T → T → Type 0) (old new : Se
   pub items : new.seen.items ≡ old.seen.items
   pub added : Added old.seen.who [] [] old.seen.floor new.seen.floor
 
+-- it got ready, and no act was made or noted; then the calls were over
+pub record IsLeft {T : Type 0} (prepares : T → T → Type 0) (leaves : T → T → Floor → Type 0) (old new : SeenWith T) : Type 0 where
+  pub ready : T
+  pub prepared : prepares old.ends ready
+  pub left : leaves ready new.ends new.seen.floor
+  pub who : new.seen.who ≡ old.seen.who
+  pub items : new.seen.items ≡ old.seen.items
+  pub added : Added old.seen.who [] [] old.seen.floor new.seen.floor
+
 -- the Job was finished; then came what its end does, and then the word to its parent
-pub record IsEndedBy {T : Type 0} (prepares : T → T → Type 0) (does : T → ℕ → End → List Item → T → Type 0) (row : ℕ)
-    (told : List JobAct) (old new : SeenWith T) : Type 0 where
+pub record IsEndedBy {T : Type 0} (prepares : T → T → Type 0) (does : T → Floor → ℕ → End → List Item → T → Floor → Type 0)
+    (leaves : T → T → Floor → Type 0) (row : ℕ) (told : List JobAct) (old new : SeenWith T) : Type 0 where
   pub end : End
   pub ready : T
   pub ended : List Item
-  -- the floor after the Finish
+  -- after what the end does
+  pub done : T
+  -- the floor after the Finish, and after what the end does
   pub between : Floor
+  pub after : Floor
   pub prepared : prepares old.ends ready
   pub finished : Added old.seen.who (Finish row end ∷ []) [] old.seen.floor between
-  pub does_it : does ready row end ended new.ends
+  pub does_it : does ready between row end ended done after
+  pub looked : Added old.seen.who [] [] between after
   pub no_jobs : job_acts_in ended ≡ []
-  pub word : Added old.seen.who told [] between new.seen.floor
+  pub word : Added old.seen.who told [] after new.seen.floor
+  pub left : leaves done new.ends new.seen.floor
   pub who : new.seen.who ≡ old.seen.who
   pub appended : new.seen.items ≡ old.seen.items ++ (made_note (Finish row end) ∷ (ended ++ map made_note told))
 
@@ -73,27 +87,27 @@ pub data MayNotEnd (row : ℕ) (old new : SeenOnJobs) : Type 0 where
   not_done : AtStep old.floor new.floor (λ tree. IsNotDone (tree row)) → MayNotEnd row old new
 
 -- what came of the end of one Job
-pub data EndAnswer {T : Type 0} (prepares : T → T → Type 0) (does : T → ℕ → End → List Item → T → Type 0) (row : ℕ)
-    (old new : SeenWith T) : Result Rise Memory → Type 0 where
-  no_memory : (m : Memory) → IsPrepared prepares old new → EndAnswer prepares does row old new (Err m)
-  not_now : IsPrepared prepares old new → MayNotEnd row old.seen new.seen → EndAnswer prepares does row old new (Ok rise.Stops)
-  root : row ≡ 0 → IsEndedBy prepares does row [] old new → EndAnswer prepares does row old new (Ok rise.Stops)
+pub data EndAnswer {T : Type 0} (prepares : T → T → Type 0) (does : T → Floor → ℕ → End → List Item → T → Floor → Type 0)
+    (leaves : T → T → Floor → Type 0) (row : ℕ) (old new : SeenWith T) : Result Rise Memory → Type 0 where
+  no_memory : (m : Memory) → IsPrepared prepares old new → EndAnswer prepares does leaves row old new (Err m)
+  not_now : IsLeft prepares leaves old new → MayNotEnd row old.seen new.seen → EndAnswer prepares does leaves row old new (Ok rise.Stops)
+  root : row ≡ 0 → IsEndedBy prepares does leaves row [] old new → EndAnswer prepares does leaves row old new (Ok rise.Stops)
   -- its parent's body has not ended, or a child of that lives
-  waits : row ≢ 0 → IsEndedBy prepares does row (Gone row ∷ []) old new
-      → is_done (parent_row (tree_in new.seen) row) ≡ false → EndAnswer prepares does row old new (Ok rise.Stops)
+  waits : row ≢ 0 → IsEndedBy prepares does leaves row (Gone row ∷ []) old new
+      → is_done (parent_row (tree_in new.seen) row) ≡ false → EndAnswer prepares does leaves row old new (Ok rise.Stops)
   -- its parent may end
-  owes : (p : ℕ) → row ≢ 0 → IsEndedBy prepares does row (Gone row ∷ []) old new
+  owes : (p : ℕ) → row ≢ 0 → IsEndedBy prepares does leaves row (Gone row ∷ []) old new
       → parent_of (tree_in new.seen row) ≡ Some p
       → AtStep old.seen.floor new.seen.floor (λ tree. is_done (parent_row tree row) ≡ true)
-      → EndAnswer prepares does row old new (Ok (rise.To p))
+      → EndAnswer prepares does leaves row old new (Ok (rise.To p))
 
 -- the ends of a Job and of its parents, as far as each owed its own; without memory it stops
-pub data IsFinishedUp {T : Type 0} (prepares : T → T → Type 0) (does : T → ℕ → End → List Item → T → Type 0)
-    : ℕ → SeenWith T → SeenWith T → Result (Unit {0}) Memory → Type 0 where
-  stops : (row : ℕ) (a b : SeenWith T) → EndAnswer prepares does row a b (Ok rise.Stops)
-      → IsFinishedUp prepares does row a b (Ok tt)
-  no_memory : (m : Memory) (row : ℕ) (a b : SeenWith T) → EndAnswer prepares does row a b (Err m)
-      → IsFinishedUp prepares does row a b (Err m)
+pub data IsFinishedUp {T : Type 0} (prepares : T → T → Type 0) (does : T → Floor → ℕ → End → List Item → T → Floor → Type 0)
+    (leaves : T → T → Floor → Type 0) : ℕ → SeenWith T → SeenWith T → Result (Unit {0}) Memory → Type 0 where
+  stops : (row : ℕ) (a b : SeenWith T) → EndAnswer prepares does leaves row a b (Ok rise.Stops)
+      → IsFinishedUp prepares does leaves row a b (Ok tt)
+  no_memory : (m : Memory) (row : ℕ) (a b : SeenWith T) → EndAnswer prepares does leaves row a b (Err m)
+      → IsFinishedUp prepares does leaves row a b (Err m)
   goes_up : (row p : ℕ) (a b c : SeenWith T) (r : Result (Unit {0}) Memory)
-      → EndAnswer prepares does row a b (Ok (rise.To p)) → IsFinishedUp prepares does p b c r
-      → IsFinishedUp prepares does row a c r
+      → EndAnswer prepares does leaves row a b (Ok (rise.To p)) → IsFinishedUp prepares does leaves p b c r
+      → IsFinishedUp prepares does leaves row a c r

@@ -22,7 +22,7 @@
 //! - `tree_rows`: reads and changes of the vector of Jobs.
 //! - `tree_claims`: which rows are claimed.
 //! - `tree_floor`: the floor of Jobs, and what it keeps; `tree_new` makes one.
-//! - `tree_calls`: the calls on Jobs.
+//! - `tree_calls`: the calls on Jobs; `tree_beside`: what it hears of a floor of channels.
 #![tactic(auto)]
 
 mod entries;
@@ -43,6 +43,7 @@ mod list_settling;
 mod list_snapshot;
 mod list_spurns;
 mod list_steps;
+mod tree_beside;
 mod tree_calls;
 mod tree_claims;
 mod tree_floor;

@@ -8,9 +8,11 @@ use Rattle.channel_model.specs.declared.acts.Act.{Act}
 use Rattle.channel_model.specs.declared.floor.WaitState.TheVariants as state
 use Rattle.channel_model.specs.Channels.{State}
 use Rattle.channel_model.specs.Answers.{state_of_wait}
-use Rattle.channel_model.specs.Floors.{Floor as ChannelFloor, AtMoment}
+use Rattle.channel_model.specs.Floors.{Floor as ChannelFloor, Looked, AtMoment}
+use Rattle.channel_model.proofs.Spans as spans
 use Rattle.job_model.specs.declared.acts.JobNote.TheVariants.{Saw}
 use Rattle.job_model.specs.Histories.{Legal}
+use Rattle.job_model.specs.Floors.{Floor}
 use Rattle.job_model.proofs.Spans.{added_looked, looked_moment}
 use Rattle.note_book.specs.declared.book.Item.TheVariants as item
 use Rattle.note_book.specs.Items.{channel_acts_in}
@@ -21,6 +23,7 @@ use Rattle.call_meaning.specs.ChannelCalls.{Answer, Closed, Waits, NoPlace}
 use Rattle.call_meaning.specs.JobCalls.{Starts}
 use Rattle.call_meaning.specs.Seen.{SeenOnChannels, SeenOnBoth, channels_of, jobs_of}
 use Rattle.call_meaning.specs.Calls.{ToldOnJobs, ToldOnBoth}
+use Rattle.call_meaning.specs.Orders.{IsToldOfJobs}
 use Rattle.call_meaning.proofs.JobTellings.{items_in-append, told_fact, told_knew, both_then, both_jobs}
 use Rattle.call_meaning.proofs.Prefixes.{prefix_behind}
 use Rattle.channel_calls.specs.Calls.{IsLeftWaiting}
@@ -30,30 +33,38 @@ use Rattle.call_meaning.specs.Endings.{ClosesAtOnce}
 use Rattle.scope_builders.specs.Dones.{KeepsDones}
 use Rattle.scope_builders.specs.Calls.{TellsBoth, ReceivesDone, AwaitsEnd, JoinsJob, IsNothing, JoinStarts, DoneAnswer, JoinAnswer, StartedAnswer, start_told}
 use Rattle.scope_builders.specs.Parts.{OwnAnswer}
-use Rattle.scope_builders.proofs.ChannelsTold as channels
 use Rattle.scope_builders.proofs.DonesKept.{quiet_kept, kept_then}
 
 -- ---- what was told of Jobs, and then a receive
 
--- a wait is left so too from a moment before, at which the channels were the same
-left_from : {w : WaitId} {acts : List Act} {a b c : SeenOnChannels} → b.who ≡ a.who → b.floor ≡ a.floor → IsLeftWaiting w acts b c
-    → IsLeftWaiting w acts a c
+-- a wait is left so too from a moment before, after which the caller made nothing of its own first
+left_from : {w : WaitId} {acts : List Act} {a b c : SeenOnChannels} → b.who ≡ a.who → Looked a.who a.floor b.floor
+    → IsLeftWaiting w acts b c → IsLeftWaiting w acts a c
 left_from {w} {acts} {a} {b} {c} e f h =
     let Stands : State → Type 0 = λ s. state_of_wait (s.waits w) ≡ Some state.Standing in
     let stood : AtMoment a.who acts b.floor c.floor Stands = subst (λ n. AtMoment n acts b.floor c.floor Stands) e h.stood in
-    record { stood = subst (λ (x : ChannelFloor). AtMoment a.who acts x c.floor Stands) f stood; holds = h.holds }
+    record {
+      stood = record {
+        moment = stood.moment;
+        after = spans.prefix_then a.floor.seen b.floor.seen stood.moment f.longer stood.after;
+        before = stood.before;
+        mine = stood.mine ∙ ap (λ (l : List Act). l ++ acts) f.mine;
+        holds = stood.holds;
+      };
+      holds = h.holds;
+    }
 
 module _ (base : ℕ) (first : List Told) (a b c : SeenOnBoth) (quiet : ClosesAtOnce base (items_in first))
     (l : Legal b.jobs.shape b.jobs.seen)
-    (same : b.channels ≡ a.channels) (h : ToldOnJobs [] (jobs_of a) (jobs_of b) first) where
+    (same : IsToldOfJobs a.who a.channels b.channels b.jobs) (h : ToldOnJobs [] (jobs_of a) (jobs_of b) first) where
   both_noted : (told : List Told) → ToldOnBoth [] b c told → ToldOnBoth [] a c (first ++ told)
-  both_noted told n = both_then (both_jobs (channels.same_called a.who a.channels b.channels same) h) n
+  both_noted told n = both_then (both_jobs (spans.added_looked a.who a.channels b.channels same.looked) same.told h) n
 
   both_kept : (told : List Told) → KeepsDones base b c (items_in told) → KeepsDones base a c (items_in (first ++ told))
   both_kept told d =
-      let none = channels.same_called a.who a.channels b.channels same in
+      let none = spans.added_looked a.who a.channels b.channels same.looked in
       let kept : KeepsDones base a b (items_in first) = quiet_kept base (items_in first) l h.added none quiet in
-      let alone = ap (λ (x : ChannelFloor). x.alone) same in
+      let alone = same.looked.same.alone in
       subst (KeepsDones base a c) (sym (items_in-append first told)) (kept_then alone h.added.same.alone kept d)
 
   tells_then : (P Q : List Told → Type 0) → ((told : List Told) → P told → Q (first ++ told)) → TellsBoth base P b c → TellsBoth base Q a c
@@ -82,7 +93,8 @@ module _ (base : ℕ) (first : List Told) (a b c : SeenOnBoth) (quiet : ClosesAt
       noted = both_noted t.0.told t.0.noted;
       dones = both_kept t.0.told t.0.dones;
     },
-    left_from h.who same (subst (λ (acts : List Act). IsLeftWaiting w acts (channels_of b) (channels_of c)) (sym (same_acts t.0.told)) t.1),
+    left_from h.who same.looked (subst (λ (acts : List Act). IsLeftWaiting w acts (channels_of b) (channels_of c))
+        (sym (same_acts t.0.told)) t.1),
   )
   done_then P Q S T f g (Ok joined.Cancelled) t = t
   done_then P Q S T f g (Ok joined.Spent) t = tells_then (P NoPlace) (Q NoPlace) (f NoPlace) t
@@ -109,7 +121,8 @@ starts_only row now told e = subst (λ l. Starts row (start_told now row ++ l)) 
     (subst (Starts row) (sym (append-nil (start_told now row))) (starts_so row now))
 
 pub awaits_told : (base row : ℕ) (now : Bool) (a b c : SeenOnBoth) (r : Result Joined Memory) → Legal b.jobs.shape b.jobs.seen
-    → b.channels ≡ a.channels → StartedAnswer row (jobs_of a) (jobs_of b) (Ok now) → DoneAnswer base (ReceivesDone base row) IsNothing b c r
+    → IsToldOfJobs a.who a.channels b.channels b.jobs → StartedAnswer row (jobs_of a) (jobs_of b) (Ok now)
+    → DoneAnswer base (ReceivesDone base row) IsNothing b c r
     → DoneAnswer base (AwaitsEnd base row) (Starts row) a c r
 awaits_told base row now a b c r l same h k =
     done_then base (start_told now row) a b c (start_quiet base row now) l same h (ReceivesDone base row) (AwaitsEnd base row) IsNothing
@@ -117,16 +130,23 @@ awaits_told base row now a b c r l same h k =
     (λ answer told goes. record { starts = start_told now row; group = told; is_started = starts_so row now; received = goes; all = refl })
     (starts_only row now) r k
 
+-- from channels by another name
+pub told_from : {who : ℕ} {a b c : ChannelFloor} {j : Floor} → b ≡ a → IsToldOfJobs who b c j → IsToldOfJobs who a c j
+told_from {who} {c = c} {j = j} e h = subst (λ (x : ChannelFloor). IsToldOfJobs who x c j) e h
+
 -- the same from the caller that the start left
 pub awaits_of : {base base' : ℕ} (row : ℕ) (now : Bool) (a b c : SeenOnBoth) (r : Result Joined Memory) → base' ≡ base
     → Legal b.jobs.shape b.jobs.seen
-    → b.channels ≡ a.channels → StartedAnswer row (jobs_of a) (jobs_of b) (Ok now)
+    → IsToldOfJobs a.who a.channels b.channels b.jobs → StartedAnswer row (jobs_of a) (jobs_of b) (Ok now)
     → DoneAnswer base' (ReceivesDone base' row) IsNothing b c r
     → DoneAnswer base (AwaitsEnd base row) (Starts row) a c r
 awaits_of {base} row now a b c r e l same h k =
     awaits_told base row now a b c r l same h (subst (λ n. DoneAnswer n (ReceivesDone n row) IsNothing b c r) e k)
 
 -- ---- a join
+
+pub own_as : (who own : ℕ) (a : Floor) (goes : Bool) {b c : Floor} → c ≡ b → OwnAnswer who own a b goes → OwnAnswer who own a c goes
+own_as who own a goes e h = subst (λ (x : Floor). OwnAnswer who own a x goes) (sym e) h
 
 own_quiet : (base own : ℕ) → ClosesAtOnce base (items_in (on_jobs (MayRun own) ∷ []))
 unfolding items_in
@@ -143,7 +163,7 @@ join_of base own row a b (Err m) h = h
 
 -- the own Job may run, and then an await
 pub joins_told : (base own row : ℕ) (a b c : SeenOnBoth) (r : Result Joined Memory) → Legal b.jobs.shape b.jobs.seen
-    → b.channels ≡ a.channels
+    → IsToldOfJobs a.who a.channels b.channels b.jobs
     → b.who ≡ a.who → b.items ≡ a.items → OwnAnswer a.who own a.jobs b.jobs true → DoneAnswer base (AwaitsEnd base row) (Starts row) b c r
     → JoinAnswer base own row a c r
 joins_told base own row a b c r l same w e look k =
@@ -156,7 +176,8 @@ joins_told base own row a b c r l same w e look k =
     (λ answer told goes. record { group = told; awaits = goes; all = refl }) (λ told s. (told, s, refl)) r k)
 
 -- the own Job was seen Cancelling
-pub join_stops : (row : ℕ) {base own : ℕ} {a b : SeenOnBoth} → Legal b.jobs.shape b.jobs.seen → b.channels ≡ a.channels → b.who ≡ a.who
+pub join_stops : (row : ℕ) {base own : ℕ} {a b : SeenOnBoth} → Legal b.jobs.shape b.jobs.seen
+    → IsToldOfJobs a.who a.channels b.channels b.jobs → b.who ≡ a.who
     → b.items ≡ a.items ++ item.Job (Saw own) ∷ [] → OwnAnswer a.who own a.jobs b.jobs false
     → JoinAnswer base own row a b (Ok joined.Cancelled)
 unfolding items_in
@@ -164,10 +185,10 @@ join_stops row {base} {own} {a} {b} l same w e look =
     let added = added_looked a.who [] a.jobs b.jobs look.0 in
     let saw_it = looked_moment a.who [] a.jobs b.jobs (JobNoteHolds (Saw own)) look.0 look.1 in
     let told : ToldOnJobs [] (jobs_of a) (jobs_of b) (saw own ∷ []) = told_knew (Saw own) refl w e added saw_it in
-    let none = channels.same_called a.who a.channels b.channels same in
+    let none = spans.added_looked a.who a.channels b.channels same.looked in
     record {
       told = saw own ∷ [];
       goes = refl;
-      noted = both_jobs none told;
+      noted = both_jobs none same.told told;
       dones = quiet_kept base (items_in (saw own ∷ [])) l added none (tt, tt);
     }

@@ -3,7 +3,7 @@ use Rattle.std.specs.Prelude.{◌≡◌, ℕ, true, false, List, [], ◌∷◌, 
 use Rattle.std.specs.List.{list_all}
 use Rattle.std.proofs.Common.{sym, ap, ◌∙◌, subst, inr}
 use Rattle.co_base.specs.declared.names.Memory.{Memory}
-use Rattle.channel_model.specs.Floors.{Floor as ChannelFloor}
+use Rattle.channel_model.proofs.Spans as spans
 use Rattle.job_model.specs.declared.acts.JobAct.{JobAct}
 use Rattle.job_model.specs.declared.acts.JobAct.TheVariants.{Attach, Start, EndBody, Cancel, Finish, Gone}
 use Rattle.job_model.specs.declared.acts.JobNote.{JobNote}
@@ -28,6 +28,8 @@ use Rattle.call_meaning.specs.Prefixes.{PrefixOf}
 use Rattle.call_meaning.specs.Seen.{SeenOnJobs, SeenOnBoth, jobs_of}
 use Rattle.call_meaning.specs.Calls.{ToldOnJobs, ToldOnBoth}
 use Rattle.call_meaning.proofs.JobTellings.{items_in-append, told_did, told_so, both_then, both_jobs}
+use Rattle.call_meaning.specs.Orders.{IsToldOfJobs}
+use Rattle.call_meaning.proofs.HeardCalls.{both_none}
 use Rattle.call_meaning.proofs.Prefixes.{prefix_behind}
 use Rattle.job_tree.specs.Notes.{made_note}
 use Rattle.job_tree.specs.Passes.{is_cancel}
@@ -70,6 +72,24 @@ pub body_added : {who row value n : ℕ} {a b c : Floor} {answer : Ended} → Ha
 body_added {who} {row} {value} {n} {a} {b} {c} h m =
     added_roomed who n (EndBody row value ∷ []) [] a b c h (added_made who (EndBody row value) [] b c m.made)
 
+-- ---- what the Jobs were, by another name
+
+pub body_as : (who row value : ℕ) (a : Floor) (answer : Ended) {b c : Floor} → c ≡ b → EndBodyAnswer who row value a b answer
+    → EndBodyAnswer who row value a c answer
+body_as who row value a answer e h = subst (λ (x : Floor). EndBodyAnswer who row value a x answer) (sym e) h
+
+pub begun_as : {row who : ℕ} {failure : Option ℕ} {a : SeenOnJobs} {b c : Floor} {items : List Item} → c ≡ b
+    → HasBegunToBreak row failure a (record { who = who; floor = b; items = items })
+    → HasBegunToBreak row failure a (record { who = who; floor = c; items = items })
+begun_as {row} {who} {failure} {a} {items = items} e h =
+    subst (λ (x : Floor). HasBegunToBreak row failure a (record { who = who; floor = x; items = items })) (sym e) h
+
+pub first_as : {row who : ℕ} {failure : Option ℕ} {a : SeenOnJobs} {b c : Floor} {items : List Item} → c ≡ b
+    → IsCancelledFirst row failure a (record { who = who; floor = b; items = items })
+    → IsCancelledFirst row failure a (record { who = who; floor = c; items = items })
+first_as {row} {who} {failure} {a} {items = items} e h =
+    subst (λ (x : Floor). IsCancelledFirst row failure a (record { who = who; floor = x; items = items })) (sym e) h
+
 -- ---- end_job
 
 still_lives : (who v : ℕ) (x : Option Job) → MayEndBody who x → is_childless x ≡ false → IsNotDone (option_map (without_body v) x)
@@ -87,7 +107,7 @@ body_not_done who row value a b answer l n m =
     (still_lives who value (replay m.made.before row) need (sym m.owes ∙ n))
 
 pub ended_alone : {base row value n : ℕ} {a d : SeenOnBoth} {b : SeenOnJobs} {answer : Ended} → IsRoomed n (jobs_of a) b
-    → Legal d.jobs.shape d.jobs.seen → is_owed answer ≡ false → d.channels ≡ a.channels
+    → Legal d.jobs.shape d.jobs.seen → is_owed answer ≡ false → IsToldOfJobs a.who a.channels d.channels d.jobs
     → EndBodyAnswer a.who row value b.floor d.jobs answer
     → d.who ≡ a.who → d.items ≡ b.items ++ made_note (EndBody row value) ∷ [] → EndedJob base row value a d answer
 unfolding items_in
@@ -95,41 +115,46 @@ ended_alone {base} {row} {value} {n} {a} {d} {b} {answer} r l o same m w f =
     let who : ℕ = a.who in
     let h : EndedBody row value (jobs_of a) (jobs_of d) answer = ended_body r m w f in
     let added = body_added r.room m in
-    let none = channels.same_called who a.channels d.channels same in
+    let none = spans.added_looked who a.channels d.channels same.looked in
     record {
       told = did (EndBody row value) ∷ on_jobs (OwesNoEnd row) ∷ [];
       group = EndsBody.ends_body (on_jobs (OwesNoEnd row) ∷ []) (Chain.stops row);
-      noted = both_jobs none (told_so (OwesNoEnd row) h.noted (inr (body_not_done who row value b.floor d.jobs answer l o m)));
+      noted = both_jobs none same.told (told_so (OwesNoEnd row) h.noted (inr (body_not_done who row value b.floor d.jobs answer l o m)));
       owes = h.owes;
       dones = quiet_kept base (made_note (EndBody row value) ∷ []) l added none (tt, tt);
     }
 
 body_kept : (base row value : ℕ) {a b : SeenOnBoth} → Legal b.jobs.shape b.jobs.seen → Added a.who (EndBody row value ∷ []) [] a.jobs b.jobs
-    → b.channels ≡ a.channels → KeepsDones base a b (items_in (did (EndBody row value) ∷ []))
+    → IsToldOfJobs a.who a.channels b.channels b.jobs → KeepsDones base a b (items_in (did (EndBody row value) ∷ []))
 unfolding items_in
 body_kept base row value {a} {b} l h same =
-    quiet_kept base (made_note (EndBody row value) ∷ []) l h (channels.same_called a.who a.channels b.channels same) (tt, tt)
+    quiet_kept base (made_note (EndBody row value) ∷ []) l h (spans.added_looked a.who a.channels b.channels same.looked) (tt, tt)
 
 first_item : (row value : ℕ) (told : List Told) → items_in (did (EndBody row value) ∷ [])
     ++ items_in told ≡ items_in (did (EndBody row value) ∷ told)
 unfolding items_in
 first_item row value told = refl
 
--- the body of a Job was ended, on the floor of Jobs alone
+-- the body of a Job was ended, on the floor of Jobs alone, of which the channels were told then
 pub record HasEndedBody (row value : ℕ) (a b : SeenOnBoth) (answer : Ended) : Type 0 where
   pub legal : Legal b.jobs.shape b.jobs.seen
-  pub same : b.channels ≡ a.channels
+  pub same : IsToldOfJobs a.who a.channels b.channels b.jobs
   pub added : Added a.who (EndBody row value ∷ []) [] a.jobs b.jobs
   pub body : EndedBody row value (jobs_of a) (jobs_of b) answer
 
+-- the first part was told, on the floor of Jobs alone
+first_noted : {a b : SeenOnBoth} {told : List Told} → IsToldOfJobs a.who a.channels b.channels b.jobs
+    → ToldOnJobs [] (jobs_of a) (jobs_of b) told → ToldOnBoth [] a b told
+first_noted {a} {b} same h = both_jobs (spans.added_looked a.who a.channels b.channels same.looked) same.told h
+
 up_noted : {base row value : ℕ} {a b c : SeenOnBoth} {answer : Ended} {r : Result (Unit {0}) Memory} → HasEndedBody row value a b answer
     → (k : FinishedUp base row b c r) → ToldOnBoth [] a c (did (EndBody row value) ∷ k.told)
-up_noted {a = a} {b = b} h k = both_then (both_jobs (channels.same_called a.who a.channels b.channels h.same) h.body.noted) k.noted
+up_noted {a = a} {b = b} h k = both_then (first_noted h.same h.body.noted) k.noted
 
 up_kept : {base row value : ℕ} {a b c : SeenOnBoth} {answer : Ended} {r : Result (Unit {0}) Memory} → HasEndedBody row value a b answer
     → (k : FinishedUp base row b c r) → KeepsDones base a c (items_in (did (EndBody row value) ∷ k.told))
 up_kept {base} {row} {value} {a} {b} {c} h k =
-    let alone = ap (λ (x : ChannelFloor). x.alone) h.same in
+    let alone = h.same.looked.same.alone in
     subst (KeepsDones base a c) (first_item row value k.told)
     (kept_then alone h.added.same.alone (body_kept base row value h.legal h.added h.same) k.dones)
 
@@ -162,7 +187,7 @@ pub did_none : {base : ℕ} {P : List Told → Type 0} {a b : SeenOnBoth} → P 
 unfolding items_in
 did_none {base} {P} {a} {b} goes l same h =
     let none = channels.same_called a.who a.channels b.channels same in
-    record { told = []; goes = goes; noted = both_jobs none h; dones = quiet_kept base [] l h.added none tt }
+    record { told = []; goes = goes; noted = both_none none h; dones = quiet_kept base [] l h.added none tt }
 
 -- what a body that ends tells begins with nothing; so does an await, and a join
 pub ends_nothing : (base row value : ℕ) → PrefixOf (EndsBody base row value) []
@@ -209,20 +234,16 @@ break_items : (cancels end : List Told) (row : ℕ) → items_in (cancels ++ on_
 unfolding items_in
 break_items cancels end row = items_in-append cancels (on_jobs (IsCancelling row) ∷ []) ∙ nothing_more (items_in cancels)
 
--- the cancellations were told, on the floor of Jobs alone
-first_noted : {a b : SeenOnBoth} {told : List Told} → b.channels ≡ a.channels → ToldOnJobs [] (jobs_of a) (jobs_of b) told
-    → ToldOnBoth [] a b told
-first_noted {a} {b} same h = both_jobs (channels.same_called a.who a.channels b.channels same) h
-
 -- floors that nobody else calls, while the Job is cancelled
-first_kept : {base : ℕ} {a b : SeenOnBoth} (told : List Told) → Legal b.jobs.shape b.jobs.seen → b.channels ≡ a.channels
-    → Added a.who (job_acts_in (items_in told)) [] a.jobs b.jobs → ClosesAtOnce base (items_in told) → KeepsDones base a b (items_in told)
+first_kept : {base : ℕ} {a b : SeenOnBoth} (told : List Told) → Legal b.jobs.shape b.jobs.seen
+    → IsToldOfJobs a.who a.channels b.channels b.jobs → Added a.who (job_acts_in (items_in told)) [] a.jobs b.jobs
+    → ClosesAtOnce base (items_in told) → KeepsDones base a b (items_in told)
 first_kept {base} {a} {b} told l same h quiet =
-    quiet_kept base (items_in told) l h (channels.same_called a.who a.channels b.channels same) quiet
+    quiet_kept base (items_in told) l h (spans.added_looked a.who a.channels b.channels same.looked) quiet
 
 -- no memory: the cancellations were begun alone
 pub did_cancels : (m : Memory) {base row : ℕ} {failure : Option ℕ} {a b : SeenOnBoth} → Legal b.jobs.shape b.jobs.seen
-    → b.channels ≡ a.channels
+    → IsToldOfJobs a.who a.channels b.channels b.jobs
     → HasBegunToBreak row failure (jobs_of a) (jobs_of b) → BrokenAnswer base row failure a b (Err m)
 did_cancels m {base} l same h = record {
   told = h.told;
@@ -235,8 +256,8 @@ behind : (told more : List Told) (row : ℕ) → (told ++ on_jobs (IsCancelling 
 behind told more row = told_assoc told (on_jobs (IsCancelling row) ∷ []) more
 
 -- what came first, and what the end of the body told
-module _ {row : ℕ} {failure : Option ℕ} {a b c : SeenOnBoth} (l : Legal b.jobs.shape b.jobs.seen) (same : b.channels ≡ a.channels)
-    (h : IsCancelledFirst row failure (jobs_of a) (jobs_of b)) where
+module _ {row : ℕ} {failure : Option ℕ} {a b c : SeenOnBoth} (l : Legal b.jobs.shape b.jobs.seen)
+    (same : IsToldOfJobs a.who a.channels b.channels b.jobs) (h : IsCancelledFirst row failure (jobs_of a) (jobs_of b)) where
   broke_noted : (told : List Told) → ToldOnBoth [] b c told → ToldOnBoth [] a c (h.told ++ on_jobs (IsCancelling row) ∷ told)
   broke_noted told k =
       let all : ToldOnBoth [] a c ((h.told ++ on_jobs (IsCancelling row) ∷ []) ++ told) = both_then (first_noted same h.noted) k in
@@ -249,13 +270,13 @@ module _ {row : ℕ} {failure : Option ℕ} {a b c : SeenOnBoth} (l : Legal b.jo
       let few = ap (λ (x : List Item). list_all is_cancel (job_acts_in x)) (break_items h.told told row) ∙ h.cancels in
       let quiet : ClosesAtOnce base (items_in first) = cancels_quiet base (items_in first) few in
       let kept : KeepsDones base a b (items_in first) = first_kept first l same h.noted.added quiet in
-      let alone = ap (λ (x : ChannelFloor). x.alone) same in
+      let alone = same.looked.same.alone in
       subst (KeepsDones base a c) (sym (items_in-append first told) ∙ ap items_in (behind h.told told row))
       (kept_then alone h.noted.added.same.alone kept k)
 
 -- the body broke off
 broke_job : {base row : ℕ} {failure : Option ℕ} {a b c : SeenOnBoth} {answer : Ended} → Legal b.jobs.shape b.jobs.seen
-    → b.channels ≡ a.channels
+    → IsToldOfJobs a.who a.channels b.channels b.jobs
     → IsCancelledFirst row failure (jobs_of a) (jobs_of b) → EndedJob base row 0 b c answer → BrokeJob base row failure a c answer
 broke_job {base} {row} {failure} {a} {b} {c} {answer} l same h k =
     let who : ℕ = a.who in
@@ -275,7 +296,7 @@ broke_job {base} {row} {failure} {a} {b} {c} {answer} l same h k =
     }
 
 pub broken : (base : ℕ) {row : ℕ} {failure : Option ℕ} (a b c : SeenOnBoth) (r : Result Ended Memory) → Legal b.jobs.shape b.jobs.seen
-    → b.channels ≡ a.channels → IsCancelledFirst row failure (jobs_of a) (jobs_of b) → EndedAnswer base row 0 b c r
+    → IsToldOfJobs a.who a.channels b.channels b.jobs → IsCancelledFirst row failure (jobs_of a) (jobs_of b) → EndedAnswer base row 0 b c r
     → BrokenAnswer base row failure a c r
 broken base a b c (Ok answer) l same h k = broke_job l same h k
 broken base {row} a b c (Err memory) l same h k = record {

@@ -1,5 +1,5 @@
 -- How a done channel is closed, and its receiver told.
-use Rattle.std.specs.Prelude.{◌≡◌, ℕ, ◌+◌, ◌<◌, List, [], ◌∷◌, ◌++◌, length, is_some, refl}
+use Rattle.std.specs.Prelude.{◌≡◌, ℕ, ◌+◌, ◌<◌, true, List, [], ◌∷◌, ◌++◌, length, is_some, refl}
 use Rattle.std.proofs.Common.{sym, ap, ◌∙◌, subst, append_assoc, arith, length-append}
 use Rattle.channel_model.specs.declared.acts.Act.{Act}
 use Rattle.channel_model.specs.declared.acts.Act.TheVariants.{Close, WakeClosed}
@@ -14,6 +14,7 @@ use Rattle.channel_model.proofs.Lasts.{closed_lasts, close_made}
 use Rattle.channel_model.proofs.Spans.{nothing_more, prefix_self}
 use Rattle.job_model.specs.declared.acts.End.{End}
 use Rattle.job_model.specs.Done.{done_channel}
+use Rattle.job_model.specs.Floors.{Floor as JobFloor}
 use Rattle.note_book.specs.declared.book.Item.{Item}
 use Rattle.note_book.specs.declared.book.Item.TheVariants as item
 use Rattle.note_book.specs.Items.{job_acts_in}
@@ -23,6 +24,7 @@ use Rattle.call_meaning.specs.Seen.{SeenOnChannels}
 use Rattle.call_meaning.specs.ChannelCalls.{Wakes, Closes}
 use Rattle.call_meaning.specs.JobCalls.{value_of}
 use Rattle.call_meaning.specs.Calls.{ToldOnChannels}
+use Rattle.call_meaning.specs.Orders.{HasHeard, IsToldOfJobs}
 use Rattle.scope_builders.specs.Dones.{IsTold, ClosesFirst, ClosedFirst, WokenLast, EndsDone}
 use Rattle.call_meaning.proofs.ChannelsHeard.{told_made, moment_before, told_met, told_then, told_now}
 use Rattle.channel_calls.proofs.Untold.{told_seen}
@@ -137,13 +139,16 @@ pub both_closed : {c v : ℕ} {a b d : SeenOnChannels} {s s' : ℕ} → (h : Clo
     → Closes c v (h.told ∷ w.told)
 both_closed {c} {v} h w = closes_both c v h.told w.told h.first w.wakes
 
--- a done channel was closed
-pub ends_done : {base rows row : ℕ} {end : End} {c v who : ℕ} {a d : Floor} {told : List Told} → row < rows → c ≡ done_channel base row
-    → v ≡ value_of end → Closes c v told → IsTold who a d told → IsSeenClosed c d → EndsDone who base rows row end a d (items_in told)
-ends_done {end = end} {c = c} {d = d} {told = told} lt ec ev closes is closed =
+-- a done channel was closed, between two hearings
+pub ends_done : {base rows row : ℕ} {end : End} {c v who : ℕ} {a b d e : Floor} {j k : JobFloor} {told : List Told} → row < rows
+    → c ≡ done_channel base row → v ≡ value_of end → Closes c v told → IsToldOfJobs who a b j → IsTold who b d told → IsSeenClosed c d
+    → e ≡ d → (j.joint ≡ true → HasHeard e k) → EndsDone who base rows row end a j e k (items_in told)
+ends_done {end = end} {c = c} {who = who} {b = b} {e = e} {told = told} lt ec ev closes first is closed same heard =
     let by_value : Closes c (value_of end) told = subst (λ n. Closes c n told) ev closes in
-    EndsDone.closes told (items_in told) lt (subst (λ n. Closes n (value_of end) told) ec by_value) refl is
-    (subst (λ n. IsSeenClosed n d) ec closed)
+    let closed_then : IsSeenClosed c e = subst (λ (x : Floor). IsSeenClosed c x) (sym same) closed in
+    EndsDone.closes told (items_in told) b lt (subst (λ n. Closes n (value_of end) told) ec by_value) refl first
+    (subst (λ (x : Floor). IsTold who b x told) (sym same) is)
+    (subst (λ n. IsSeenClosed n e) ec closed_then) heard
 
 -- its notes
 pub ends_noted : {c v : ℕ} {a b d : SeenOnChannels} {s s' : ℕ} → (h : ClosedFirst c v a b) → (w : WokenLast c b d s s')

@@ -22,7 +22,12 @@ use Rattle.channel_model.specs.Answers.{GotAnswer, IsSpentForReceives, IsDrained
 use Rattle.channel_model.proofs.Histories.{replay_push}
 use Rattle.channel_model.proofs.Spans.{nothing_more}
 use Rattle.job_model.specs.Done.{done_channel}
-use Rattle.job_model.specs.Floors.{Floor as JobFloor, Added as AddedToJobs}
+use Rattle.job_model.specs.declared.acts.JobEntry.{JobEntry}
+use Rattle.job_model.specs.Trees.{Shape as JobShape}
+use Rattle.job_model.specs.Histories.{replay as replay_jobs}
+use Rattle.job_model.specs.Laws.{has_ended}
+use Rattle.job_model.specs.Floors.{Floor as JobFloor, Looked as LookedAtJobs}
+use Rattle.job_model.proofs.Spans.{added_looked}
 use Rattle.note_book.specs.declared.book.Item.{Item}
 use Rattle.note_book.specs.declared.book.Item.TheVariants as item
 use Rattle.note_book.specs.Items.{channel_acts_in}
@@ -32,14 +37,15 @@ use Rattle.call_meaning.specs.Seen.{SeenOnChannels, SeenOnBoth, channels_of}
 use Rattle.call_meaning.specs.Calls.{ToldOnChannels}
 use Rattle.call_meaning.specs.ChannelCalls.{Closed, Waits, receives, wait_at, spent, Refused, PlainCall}
 use Rattle.call_meaning.proofs.ChannelsHeard.{told_made, told_met, told_met_after, moment_before}
-use Rattle.call_meaning.proofs.JobTellings.{nobody_called, both_channels}
+use Rattle.call_meaning.specs.Orders.{HeardIfJoint}
+use Rattle.call_meaning.proofs.JobTellings.{both_channels}
 use Rattle.channel_calls.specs.Calls.{IsLeftWaiting}
 use Rattle.channel_calls.proofs.Begun.{receiver_waits}
 use Rattle.channel_calls.proofs.ReceivesTold.{closed_as}
 use Rattle.scope_builders.specs.declared.builder.Joined.{Joined}
 use Rattle.scope_builders.specs.declared.builder.Joined.TheVariants as joined
 use Rattle.call_meaning.specs.Endings.{ClosesAtOnce}
-use Rattle.scope_builders.specs.Dones.{SignalAnswer, OnlyEndedAreClosed, KeepsDones}
+use Rattle.scope_builders.specs.Dones.{SignalAnswer, ClosedIsSeen, KeepsDones}
 use Rattle.scope_builders.specs.Calls.{MayBuild, TellsBoth, ReceivesDone, IsNothing, DoneAnswer}
 use Rattle.channel_calls.proofs.Roomed.{IsRoomed, roomed, untouched}
 use Rattle.channel_calls.proofs.Untold.{untouched_told}
@@ -94,12 +100,14 @@ await_closes_none s who c p d = by_test (c == d) refl
     by_test false e = refl
 
 -- only what was closed before is closed now
-still_kept : {base : ℕ} {a b : SeenOnBoth} {group : List Item} → b.jobs ≡ a.jobs → ClosesAtOnce base group
+still_kept : {base : ℕ} {a b : SeenOnBoth} {group : List Item} → LookedAtJobs a.who [] a.jobs b.jobs → ClosesAtOnce base group
     → (a.channels.alone ≡ true → (d : ℕ) → ((replay b.channels.seen).channels d).closed ≡ ((replay a.channels.seen).channels d).closed)
     → KeepsDones base a b group
 still_kept {base} {a} {b} jobs quiet same = record {
-  only = λ ca ja o.
-      subst (OnlyEndedAreClosed base b.channels) (sym jobs) (λ r k is. o r k (sym (ap is_some (same ca (done_channel base r))) ∙ is));
+  only = λ ca ja o r k is.
+      let row = subst (λ (s : JobShape). r < s.rows) jobs.same.shape k in
+      ap (λ (es : List JobEntry). has_ended (replay_jobs es r)) (jobs.alone ja)
+      ∙ o r row (sym (ap is_some (same ca (done_channel base r))) ∙ is);
   at_once = λ ca ja o. quiet;
 }
 
@@ -116,21 +124,33 @@ await_closed who n p c c' h alone d =
 
 -- ---- in the words of a coroutine
 
-same_jobs : (who : ℕ) (j j' : JobFloor) → j' ≡ j → AddedToJobs who [] [] j j'
-same_jobs who j j' e = subst (λ (x : JobFloor). AddedToJobs who [] [] j x) (sym e) (nobody_called who j)
+-- the answer by another name of the channels
+pub signal_as : (n : ℕ) (a : SeenOnChannels) (who : ℕ) (items : List Item) (r : Result Joined Memory) {b c : Floor} → c ≡ b
+    → SignalAnswer n a (record { who = who; floor = b; items = items }) r
+    → SignalAnswer n a (record { who = who; floor = c; items = items }) r
+signal_as n a who items r e h =
+    subst (λ (x : Floor). SignalAnswer n a (record { who = who; floor = x; items = items }) r) (sym e) h
 
-tells_one : {base : ℕ} {P : List Told → Type 0} {told : List Told} {a b : SeenOnBoth} → b.jobs ≡ a.jobs → P told
+pub seen_closed_as : (n : ℕ) (r : Result Joined Memory) {b c : Floor} → c ≡ b → ClosedIsSeen n b r → ClosedIsSeen n c r
+seen_closed_as n r e h = subst (λ (x : Floor). ClosedIsSeen n x r) (sym e) h
+
+-- the Jobs heard of the channels, and no entry was made
+pub record HaveHeard (who : ℕ) (channels : Floor) (old new : JobFloor) : Type 0 where
+  pub looked : LookedAtJobs who [] old new
+  pub heard : HeardIfJoint channels new
+
+tells_one : {base : ℕ} {P : List Told → Type 0} {told : List Told} {a b : SeenOnBoth} → HaveHeard a.who b.channels a.jobs b.jobs → P told
     → ClosesAtOnce base (items_in told)
     → (a.channels.alone ≡ true → (d : ℕ) → ((replay b.channels.seen).channels d).closed ≡ ((replay a.channels.seen).channels d).closed)
     → ToldOnChannels (channels_of a) (channels_of b) told → TellsBoth base P a b
 tells_one {told = told} {a = a} {b = b} jobs goes quiet same h = record {
   told = told;
   goes = goes;
-  noted = both_channels (same_jobs a.who a.jobs b.jobs jobs) h;
-  dones = still_kept jobs quiet same;
+  noted = both_channels (added_looked a.who [] a.jobs b.jobs jobs.looked) jobs.heard h;
+  dones = still_kept jobs.looked quiet same;
 }
 
-done_at : (base row : ℕ) (a b : SeenOnBoth) (r : Result Joined Memory) → b.jobs ≡ a.jobs
+done_at : (base row : ℕ) (a b : SeenOnBoth) (r : Result Joined Memory) → HaveHeard a.who b.channels a.jobs b.jobs
     → SignalAnswer (done_channel base row) (channels_of a) (channels_of b) r → DoneAnswer base (ReceivesDone base row) IsNothing a b r
 unfolding items_in
 done_at base row a b (Ok (joined.Closed v)) jobs h =
@@ -146,8 +166,8 @@ done_at base row a b (Ok (joined.Waits w)) jobs h =
       record {
         told = made act ∷ [];
         goes = PlainCall.awaits n h.place;
-        noted = both_channels (same_jobs a.who a.jobs b.jobs jobs) h.left;
-        dones = still_kept jobs (tt, tt) (await_closed a.who n h.place a.channels b.channels h.left.added);
+        noted = both_channels (added_looked a.who [] a.jobs b.jobs jobs.looked) jobs.heard h.left;
+        dones = still_kept jobs.looked (tt, tt) (await_closed a.who n h.place a.channels b.channels h.left.added);
       },
       subst left h.named h.waits,
     )
@@ -159,11 +179,12 @@ done_at base row a b (Ok joined.Spent) jobs h =
 done_at base row a b (Err m) jobs h = record {
   told = [];
   goes = record { rest = []; all = refl };
-  noted = both_channels (same_jobs a.who a.jobs b.jobs jobs) h;
-  dones = still_kept jobs tt (none_closed a.who a.channels b.channels h.added);
+  noted = both_channels (added_looked a.who [] a.jobs b.jobs jobs.looked) jobs.heard h;
+  dones = still_kept jobs.looked tt (none_closed a.who a.channels b.channels h.added);
 }
 
-pub done_answer : (base row n : ℕ) (a b : SeenOnBoth) (r : Result Joined Memory) → n ≡ done_channel base row → b.jobs ≡ a.jobs
+pub done_answer : (base row n : ℕ) (a b : SeenOnBoth) (r : Result Joined Memory) → n ≡ done_channel base row
+    → HaveHeard a.who b.channels a.jobs b.jobs
     → SignalAnswer n (channels_of a) (channels_of b) r → DoneAnswer base (ReceivesDone base row) IsNothing a b r
 done_answer base row n a b r e jobs h =
     done_at base row a b r jobs (subst (λ m. SignalAnswer m (channels_of a) (channels_of b) r) e h)

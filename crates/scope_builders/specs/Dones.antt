@@ -14,6 +14,7 @@ use Rattle.job_model.specs.Laws.{has_ended}
 use Rattle.job_model.specs.Histories.{replay}
 use Rattle.job_model.specs.Floors.{Floor}
 use Rattle.note_book.specs.declared.book.Item.{Item}
+use Rattle.call_meaning.specs.Orders.{HasHeard, IsToldOfJobs}
 use Rattle.call_meaning.specs.Telling.{Told, items_in, made, heard}
 use Rattle.call_meaning.specs.Facts.{IsClosedWith}
 use Rattle.call_meaning.specs.ChannelCalls.{receives, wait_at, spent, Wakes, Closes}
@@ -64,12 +65,15 @@ pub record WokenLast (c : ℕ) (old new : SeenOnChannels) (spare spare' : ℕ) :
   pub few : length (items_in told) ≤ 1
   pub room : spare ≡ spare' + length (items_in told)
 
--- the done channel of a row was closed, or had been; past the last row nothing is done
-pub data EndsDone (who base rows row : ℕ) (end : End) (old new : ChannelFloor) : List Item → Type 0 where
-  closes : (told : List Told) (items : List Item) → row < rows
+-- the done channel of a row was closed, or had been, where the channels were told of the Jobs before and the Jobs heard of the channels
+-- then; past the last row nothing is done
+pub data EndsDone (who base rows row : ℕ) (end : End) (old : ChannelFloor) (jobs : Floor) (new : ChannelFloor) (after : Floor)
+    : List Item → Type 0 where
+  closes : (told : List Told) (items : List Item) (between : ChannelFloor) → row < rows
       → Closes (done_channel base row) (value_of end) told → items ≡ items_in told
-      → IsTold who old new told → IsSeenClosed (done_channel base row) new → EndsDone who base rows row end old new items
-  outside : rows ≤ row → new ≡ old → EndsDone who base rows row end old new []
+      → IsToldOfJobs who old between jobs → IsTold who between new told → IsSeenClosed (done_channel base row) new
+      → (jobs.joint ≡ true → HasHeard new after) → EndsDone who base rows row end old jobs new after items
+  outside : rows ≤ row → new ≡ old → after ≡ jobs → EndsDone who base rows row end old jobs new after []
 
 -- ---- a receive
 

@@ -22,6 +22,7 @@ ghost use Rattle.scope_builders.specs.Calls.{
 
 use crate::builder::{Builder, LaunchError};
 use crate::parts::{attach, cancel_first, cancel_tree, finish_up};
+use call_meaning::JobsBeside;
 use channel_model::ChannelFloor;
 use co_base::{Memory, Row, Tag, Value, Wakes};
 use job_model::{Attached, Ended, JobAct, JobFloor, JobKind, JobNote, Reason};
@@ -51,7 +52,7 @@ pub fn attach_coroutine<J: JobFloor, B: NoteBook>(
     attach(jobs, book, who, parent, kind, tag)
 }
 
-impl<C: ChannelFloor, J: JobFloor, B: NoteBook, W: Wakes> Builder<'_, '_, '_, '_, C, J, B, W> {
+impl<C: ChannelFloor, J: JobsBeside<C>, B: NoteBook, W: Wakes> Builder<'_, '_, '_, '_, C, J, B, W> {
     /// Attaches the Job of a coroutine to a parent, and wakes the coroutine unless its Job is New.
     ///
     /// Example: `launch_and_cancel` in `docs/LIBRARY.md`.
@@ -152,6 +153,7 @@ impl<C: ChannelFloor, J: JobFloor, B: NoteBook, W: Wakes> Builder<'_, '_, '_, '_
         let ended = self.jobs.end_body(self.who, row, value);
         let act = JobAct::EndBody { row, value };
         self.book.note(Item::Job(JobNote::Made(act)));
+        self.jobs.tell(self.channels);
         match ended {
             Ended::Waits => Ok(Ended::Waits),
             Ended::Owes => match finish_up(
@@ -180,9 +182,9 @@ impl<C: ChannelFloor, J: JobFloor, B: NoteBook, W: Wakes> Builder<'_, '_, '_, '_
         ensures answer { BrokenAnswer self.old.base row failure (seen C.view J.view B.items self.old)
             (seen C.view J.view B.items self.new) result }
     {
-        if let Err(memory) = cancel_first(
-            self.jobs, self.book, self.wakes, self.who, row, failure,
-        ) {
+        let first = cancel_first(self.jobs, self.book, self.wakes, self.who, row, failure);
+        self.jobs.tell(self.channels);
+        if let Err(memory) = first {
             return Err(memory);
         }
         self.end_job(row, 0)

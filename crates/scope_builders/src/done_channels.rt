@@ -6,11 +6,13 @@ ghost use Rattle.channel_model.specs.declared.acts.Kind.TheVariants.{Signal};
 ghost use Rattle.channel_model.specs.Channels.{kind_at, places_at};
 ghost use Rattle.channel_model.specs.Floors.{Added, MayCall};
 ghost use Rattle.channel_model.specs.Answers.{IsSeenClosed};
+ghost use Rattle.call_meaning.specs.Orders.{IsToldOfJobs};
 ghost use Rattle.call_meaning.specs.Seen.{seen_channels};
 ghost use Rattle.call_meaning.specs.JobCalls.{value_of};
 ghost use Rattle.scope_builders.specs.Dones.{MayClose, ClosedFirst, WokenLast, EndsDone, SignalAnswer, ClosedIsSeen};
 
 use crate::builder::Joined;
+use call_meaning::JobsBeside;
 use channel_model::{Act, ChannelFloor, ChannelNote, Got};
 use co_base::{ChannelId, Memory, Row, Tag, Value, WaitId, Wakes};
 use job_model::{End, done_channel};
@@ -138,7 +140,8 @@ pub(crate) fn receive_signal<C: ChannelFloor, B: NoteBook>(
     }
 }
 
-impl<C: ChannelFloor, B: NoteBook, W: Wakes> Ends<B, W> for DoneChannels<'_, C> {
+impl<C: ChannelFloor, J: JobsBeside<C>, B: NoteBook, W: Wakes> Ends<J, B, W>
+    for DoneChannels<'_, C> {
     ghost most = { λ d. 2 };
 
     ghost is_ready = { λ d. nat_lt 1 (C.view d.channels.now).spare };
@@ -148,10 +151,15 @@ impl<C: ChannelFloor, B: NoteBook, W: Wakes> Ends<B, W> for DoneChannels<'_, C> 
         × (C.anchor e.channels.now ≡ C.anchor d.channels.now)
         × Added d.who [] (C.view d.channels.now) (C.view e.channels.now) };
 
-    ghost does = { λ d row end items e.
+    ghost does = { λ d jobs row end items e after.
         (e.channels.ghost_name ≡ d.channels.ghost_name) × (e.who ≡ d.who) × (e.base ≡ d.base) × (e.rows ≡ d.rows)
         × (C.anchor e.channels.now ≡ C.anchor d.channels.now)
-        × EndsDone d.who d.base d.rows row end (C.view d.channels.now) (C.view e.channels.now) items };
+        × EndsDone d.who d.base d.rows row end (C.view d.channels.now) jobs (C.view e.channels.now) after items };
+
+    ghost leaves = { λ d e jobs.
+        (e.channels.ghost_name ≡ d.channels.ghost_name) × (e.who ≡ d.who) × (e.base ≡ d.base) × (e.rows ≡ d.rows)
+        × (C.anchor e.channels.now ≡ C.anchor d.channels.now)
+        × IsToldOfJobs d.who (C.view d.channels.now) (C.view e.channels.now) jobs };
 
     fn ready(&mut self, book: &mut B, more: u32) -> Result<(), Memory> {
         let Some(notes) = more.checked_add(2) else {
@@ -166,12 +174,18 @@ impl<C: ChannelFloor, B: NoteBook, W: Wakes> Ends<B, W> for DoneChannels<'_, C> 
         Ok(())
     }
 
-    fn ended(&mut self, book: &mut B, wakes: &mut W, row: Row, end: End) {
+    fn ended(&mut self, jobs: &mut J, book: &mut B, wakes: &mut W, row: Row, end: End) {
         if row >= self.rows {
             return;
         }
+        jobs.tell(self.channels);
         let c = done_channel(self.base, row);
         close_first(self.channels, book, self.who, c, value_of(end));
         wake_last(self.channels, book, wakes, self.who, c);
+        jobs.hear(self.channels);
+    }
+
+    fn left(&mut self, jobs: &mut J) {
+        jobs.tell(self.channels);
     }
 }

@@ -1,9 +1,10 @@
 //! The calls that wait for the end of a Job, and that see it.
 
-ghost use Rattle.std.specs.Prelude.{◌≡◌, true};
+ghost use Rattle.std.specs.Prelude.{◌≡◌, true, []};
 ghost use Rattle.job_model.specs.Needs.{MayEndBody};
 ghost use Rattle.job_model.specs.Histories.{replay};
 ghost use Rattle.job_model.specs.Done.{done_channel};
+ghost use Rattle.job_model.specs.Floors.{Looked};
 ghost use Rattle.call_meaning.specs.Seen.{tree_in};
 ghost use Rattle.call_meaning.specs.JobCalls.{Starts};
 ghost use Rattle.scope_builders.specs.Dones.{ClosedIsSeen};
@@ -24,6 +25,7 @@ ghost use Rattle.scope_builders.specs.Calls.{
 
 use crate::builder::{Builder, Joined};
 use crate::done_channels::receive_signal;
+use call_meaning::JobsBeside;
 use channel_model::ChannelFloor;
 use co_base::{Memory, Row, Tag, Wakes};
 use job_model::{End, JobFloor, JobNote, JobState, JobView, done_channel};
@@ -67,7 +69,7 @@ fn end_in(job: Option<JobView>) -> Option<End>
     }
 }
 
-impl<C: ChannelFloor, J: JobFloor, B: NoteBook, W: Wakes> Builder<'_, '_, '_, '_, C, J, B, W> {
+impl<C: ChannelFloor, J: JobsBeside<C>, B: NoteBook, W: Wakes> Builder<'_, '_, '_, '_, C, J, B, W> {
     /// Waits for the end of a Job, unless the caller's own Job is seen Cancelling. A Job that is New is started.
     ///
     /// It asks more of the own Job than the look at it needs: its body is the caller's, may run and has not ended.
@@ -85,8 +87,10 @@ impl<C: ChannelFloor, J: JobFloor, B: NoteBook, W: Wakes> Builder<'_, '_, '_, '_
         }
         if !may_run(self.jobs, self.who, own) {
             self.book.note(Item::Job(JobNote::Saw { row: own }));
+            self.jobs.tell(self.channels);
             return Ok(Joined::Cancelled);
         }
+        self.jobs.tell(self.channels);
         self.await_end(row)
     }
 
@@ -102,6 +106,7 @@ impl<C: ChannelFloor, J: JobFloor, B: NoteBook, W: Wakes> Builder<'_, '_, '_, '_
         if let Err(memory) = self.start(row) {
             return Err(memory);
         }
+        self.jobs.tell(self.channels);
         self.receive_done(row)
     }
 
@@ -112,17 +117,19 @@ impl<C: ChannelFloor, J: JobFloor, B: NoteBook, W: Wakes> Builder<'_, '_, '_, '_
         requires may { MayBuild self.old.base (seen C.view J.view B.items self.old) }
         requires row { IsAttached row (seen_on_jobs J.view B.items self.old) }
         ensures same { SameBuilder C.anchor J.anchor self.old self.new }
-        ensures jobs { self.new.jobs.now ≡ self.old.jobs.now }
+        ensures jobs { Looked self.old.who [] (J.view self.old.jobs.now) (J.view self.new.jobs.now) }
         ensures answer { DoneAnswer self.old.base (ReceivesDone self.old.base row) IsNothing
             (seen C.view J.view B.items self.old) (seen C.view J.view B.items self.new) result }
         ensures closed { ClosedIsSeen (done_channel self.old.base row) (C.view self.new.channels.now) result }
     {
-        receive_signal(
+        let answer = receive_signal(
             self.channels,
             self.book,
             self.who,
             done_channel(self.base, row),
-        )
+        );
+        self.jobs.hear(self.channels);
+        answer
     }
 
     /// How a Job ended, if it has ended.

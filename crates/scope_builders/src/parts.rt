@@ -16,6 +16,7 @@ ghost use Rattle.scope_builders.specs.Parts.{AttachedAnswer, SeenAnswer, BreakAn
 
 use crate::builder::LaunchError;
 use crate::done_channels::DoneChannels;
+use call_meaning::JobsBeside;
 use channel_model::ChannelFloor;
 use co_base::{ChannelId, Memory, Row, Tag, Wakes};
 use job_model::{AttachError, Attached, JobAct, JobFloor, JobKind, JobNote, JobState, Reason};
@@ -217,7 +218,7 @@ pub(crate) fn cancel_first<J: JobFloor, B: NoteBook, W: Wakes>(
 
 /// Ends a Job, if it may end, and then its parents, as far as the end of a child was all that they waited for, each with its
 /// done channel.
-pub(crate) fn finish_up<C: ChannelFloor, J: JobFloor, B: NoteBook, W: Wakes>(
+pub(crate) fn finish_up<C: ChannelFloor, J: JobsBeside<C>, B: NoteBook, W: Wakes>(
     channels: &mut C,
     jobs: &mut J,
     book: &mut B,
@@ -250,7 +251,7 @@ pub(crate) fn finish_up<C: ChannelFloor, J: JobFloor, B: NoteBook, W: Wakes>(
 }
 
 /// Ends a Job and its parents, with these done channels.
-fn finish_with<C: ChannelFloor, J: JobFloor, B: NoteBook, W: Wakes>(
+fn finish_with<C: ChannelFloor, J: JobsBeside<C>, B: NoteBook, W: Wakes>(
     caller: &mut JobCaller<'_, '_, '_, J, B, W>,
     done: &mut DoneChannels<'_, C>,
     row: Row,

@@ -14,6 +14,7 @@ pub record MetOnChannels (a a' b b' : ChannelFloor) : Type 0 where
   pub other : b' ≡ b
   pub longer : IsPrefix a.seen a'.seen
   pub heard : IsPrefix b.seen a'.seen
+  pub heard_order : IsPrefix b.order a'.order
   pub mine : (k : ℕ) → a.callers k ≡ true → acts_of k a'.seen ≡ acts_of k a.seen
 
 -- b ended into a, which became a': it goes on, has seen all that b had seen, and may call for the callers of both, who did nothing
@@ -22,6 +23,8 @@ pub record EndedOnChannels (a a' b : ChannelFloor) : Type 0 where
   pub callers : (k : ℕ) → a'.callers k ≡ (a.callers k || b.callers k)
   pub longer : IsPrefix a.seen a'.seen
   pub heard : IsPrefix b.seen a'.seen
+  pub order : IsPrefix a.order a'.order
+  pub heard_order : IsPrefix b.order a'.order
   pub mine : (k : ℕ) → a.callers k ≡ true → acts_of k a'.seen ≡ acts_of k a.seen
   pub theirs : (k : ℕ) → b.callers k ≡ true → acts_of k a'.seen ≡ acts_of k b.seen
 
@@ -37,6 +40,7 @@ pub record MetOnJobs (a a' b b' : Floor) : Type 0 where
   pub other : b' ≡ b
   pub longer : IsPrefix a.seen a'.seen
   pub heard : IsPrefix b.seen a'.seen
+  pub heard_order : IsPrefix b.order a'.order
   pub mine : (k : ℕ) → a.callers k ≡ true → job_acts_of k a'.seen ≡ job_acts_of k a.seen
   pub kept : (r t : ℕ) → a.claims r ≡ Some t → a'.claims r ≡ Some t
   pub heard_claims : (r t : ℕ) → b.claims r ≡ Some t → a'.claims r ≡ Some t
@@ -48,6 +52,9 @@ pub record EndedOnJobs (a a' b : Floor) : Type 0 where
   pub callers : (k : ℕ) → a'.callers k ≡ (a.callers k || b.callers k)
   pub longer : IsPrefix a.seen a'.seen
   pub heard : IsPrefix b.seen a'.seen
+  pub order : IsPrefix a.order a'.order
+  pub heard_order : IsPrefix b.order a'.order
+  pub joint : a'.joint ≡ a.joint
   pub mine : (k : ℕ) → a.callers k ≡ true → job_acts_of k a'.seen ≡ job_acts_of k a.seen
   pub theirs : (k : ℕ) → b.callers k ≡ true → job_acts_of k a'.seen ≡ job_acts_of k b.seen
   pub kept : (r t : ℕ) → a.claims r ≡ Some t → a'.claims r ≡ Some t

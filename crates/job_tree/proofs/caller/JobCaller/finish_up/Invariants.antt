@@ -7,7 +7,7 @@ use Rattle.job_tree.proofs.caller.JobCaller.finish_up.Given as goal
 abbrev pub invariant-loop-parent : goal.invariant-loop-parent
 invariant-loop-parent g l = record {
   same : SameCaller g.F.JobFloor.anchor l.initial.self l.self;
-  rise : IsRise g.E.Ends.prepares g.E.Ends.does l.row l.at
+  rise : IsRise g.E.Ends.prepares g.E.Ends.does g.E.Ends.leaves l.row l.at
       (seen_with (seen g.F.JobFloor.view g.B.NoteBook.items l.initial.self) l.initial.ends)
       (seen_with (seen g.F.JobFloor.view g.B.NoteBook.items l.self) l.ends);
 }

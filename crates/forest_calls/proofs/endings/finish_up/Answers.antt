@@ -1,6 +1,6 @@
 use Rattle.forest_calls.proofs.PassesStayOwn.{stays_own, gives_on}
 use Rattle.job_tree.proofs.Endings.{finished_added}
-use Rattle.forest_calls.proofs.endings.finish_on.Goals as goal
+use Rattle.forest_calls.proofs.endings.finish_up.Goals as goal
 
 pub returns-clause-own : goal.returns-clause-own
 returns-clause-own g c =
