@@ -1,5 +1,6 @@
 -- What the steps of a pass tell of its floor.
 use Rattle.std.proofs.Common.{◌≡◌, ℕ, ◌+◌, ◌≤◌, Bool, true, false, true≢false, List, [], ◌∷◌, ◌++◌, Option, Some, None, is_some, sym, refl, ap, ◌∙◌, subst, arith, append-nil}
+use Rattle.co_base.proofs.Orders.{order_same, order_then}
 use mathlib.Core.List.{IsPrefix}
 use mathlib.Core.Logic.{dite}
 use native.Mathlib.Decide.{dec_le}
@@ -28,7 +29,15 @@ use Rattle.cell_words.proofs.LooksAtCells.{sees_then}
 use Rattle.cell_calls.specs.HubFloors.{hub_floor}
 
 pub sees_self : (v : Seen) → Sees v v
-sees_self v = record { others = []; now = sym (append-nil v.seen); apart = λ t h. refl; tags = refl; giving = refl }
+sees_self v = record {
+  others = [];
+  now = sym (append-nil v.seen);
+  apart = λ t h. refl;
+  tags = refl;
+  giving = refl;
+  order =
+      order_same v.order;
+}
 
 pub prefix_seen : (v w : Seen) → Sees v w → IsPrefix v.seen w.seen
 prefix_seen v w s = (s.others, sym s.now)
@@ -40,7 +49,7 @@ module _ (hub : Hub) (who : ℕ) where
   pub looked_of : (a b : Pass) → has_tag who (seen_by a).tags ≡ true → Sees (seen_by a) (seen_by b)
       → Looked who (hub_floor hub a) (hub_floor hub b)
   looked_of a b own s = record {
-    same = record { shape = refl; alone = refl; callers = ap {B = ℕ → Bool} (λ l t. has_tag t l) s.tags };
+    same = record { shape = refl; alone = refl; callers = ap {B = ℕ → Bool} (λ l t. has_tag t l) s.tags; order = s.order };
     longer = prefix_seen (seen_by a) (seen_by b) s;
     mine = ap (acts_of who) s.now ∙ same_acts who (seen_by a).seen s.others (s.apart who own);
     alone = λ e. absurd (true≢false (sym e));
@@ -51,7 +60,12 @@ module _ (hub : Hub) (who : ℕ) where
   abbrev pub made_of : (a b : Pass) (x : Seen) (act : Act) → has_tag who (seen_by a).tags ≡ true → Sees (seen_by a) x
       → Makes x (record { who = who; act = act }) (seen_by b) → Made who act (hub_floor hub a) (hub_floor hub b)
   made_of a b x act own s m = record {
-    same = record { shape = refl; alone = refl; callers = ap {B = ℕ → Bool} (λ l t. has_tag t l) (m.tags ∙ s.tags) };
+    same = record {
+      shape = refl;
+      alone = refl;
+      callers = ap {B = ℕ → Bool} (λ l t. has_tag t l) (m.tags ∙ s.tags);
+      order = order_then (seen_by a).order x.order (seen_by b).order s.order m.order;
+    };
     before = x.seen ++ m.others;
     longer = prefix_append (seen_by a).seen x.seen m.others (prefix_seen (seen_by a) x s);
     mine = same_acts who x.seen m.others (m.apart who (ap (has_tag who) s.tags ∙ own)) ∙ ap (acts_of who) s.now
@@ -131,7 +145,15 @@ module _ (hub : Hub) (who : ℕ) where
 -- ---- a counter was raised
 
 abbrev floor_seen : Hub → Seen → Floor
-floor_seen hub v = record { shape = shape_of hub; seen = v.seen; spare = 4294967296; alone = false; callers = λ t. has_tag t v.tags }
+floor_seen hub v = record {
+  shape = shape_of hub;
+  seen = v.seen;
+  spare = 4294967296;
+  alone = false;
+  callers = λ t. has_tag t v.tags;
+  order =
+      v.order;
+}
 
 -- a raise shows nothing, so the floor is as it was
 pub same_floor : (hub : Hub) (a b : Pass) (P : Floor → Type 0) → seen_by b ≡ seen_by a → P (hub_floor hub a) → P (hub_floor hub b)

@@ -17,4 +17,5 @@ desk_anchor d =
       name = d.pass.ghost_name;
       chief = (seen_by d.pass.now).chief;
       given = (seen_by d.pass.now).given;
+      given_all = (seen_by d.pass.now).given_all;
     }

@@ -15,4 +15,5 @@ hub_floor hub pass =
       spare = 4294967296;
       alone = false;
       callers = λ t. has_tag t (seen_by pass).tags;
+      order = (seen_by pass).order;
     }

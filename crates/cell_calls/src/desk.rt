@@ -19,6 +19,8 @@ pub struct DeskAnchor {
     /// Whether the pass gives out tags, and those that it has given out.
     pub chief: bool,
     pub given: LinkedList<u64>,
+    /// The same of both parts of the table.
+    pub given_all: LinkedList<u64>,
 }
 
 /// Where the callers of one pass call. None of its calls waits, takes a lock or takes memory: who would have to wait is told the place of

@@ -2,11 +2,12 @@
 use Rattle.std.specs.Prelude.{◌≡◌, ℕ, ◌==◌, Bool, true, false, List, [], ◌∷◌, if◌then◌else◌, refl}
 use Rattle.std.proofs.Common.{sym, ap, ◌∙◌}
 use Rattle.worded.specs.Histories.{entries_of}
+use Rattle.worded.specs.declared.view.View.{View}
 use Rattle.channel_model.specs.declared.acts.Act.{Act}
 use Rattle.channel_model.specs.declared.acts.Entry.{Entry}
 use Rattle.channel_model.specs.Histories.{Legal, acts_of}
 use Rattle.word_rules.specs.declared.layout.Layout.{Layout}
-use Rattle.cell_words.specs.Seen.{Seen, NothingOf}
+use Rattle.cell_words.specs.Seen.{NothingOf}
 use Rattle.word_rules.specs.Words.{maker}
 
 -- the acts of these entries
@@ -36,5 +37,5 @@ no_acts t es e = acts_of_entries t es ∙ ap acts_in e
 abbrev pub legal_at : Layout → List Entry → Type 0
 legal_at k = Legal k.kinds
 
-pub nothing_of : (v : Seen) → legal_at v.key v.seen → (t : ℕ) → entries_of maker t v.seen ≡ [] → NothingOf t v
+pub nothing_of : (v : View Entry Layout) → legal_at v.key v.seen → (t : ℕ) → entries_of maker t v.seen ≡ [] → NothingOf t v
 nothing_of v h t e = no_acts t v.seen e

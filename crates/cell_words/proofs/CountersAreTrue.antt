@@ -3,6 +3,7 @@ use Rattle.std.proofs.Common.{◌≡◌, ℕ, ◌+◌, ◌*◌, ◌/◌, ◌%◌
 use mathlib.Core.Logic.{dite}
 use native.Mathlib.Decide.{dec_le}
 use Rattle.worded.specs.Exchanges.{MayLift}
+use Rattle.joined_words.specs.Seen.{view_of}
 use Rattle.channel_model.specs.Laws.{NoneBelow}
 use Rattle.channel_model.specs.declared.acts.Entry.{Entry}
 use Rattle.channel_model.specs.Channels.{Shape, places_at}
@@ -62,7 +63,7 @@ decided_not_mark : (shape : Shape) (c d q : ℕ) → c < length shape → decide
 decided_not_mark shape c d q lc e = omega arith
 
 pub raises_sends : (shape : Shape) (c k : ℕ) (v : Seen) → c < length shape → NoneBelow k 0 (at_channel v.seen c)
-    → MayLift (Legal shape) (Fits shape) maker v (send_number shape c) k
+    → MayLift (Legal shape) (Fits shape) maker (view_of v) (send_number shape c) k
 raises_sends shape c k v lc low others n added f = record {
   cell = λ d q ld lq e. absurd (cell_not_send shape d c q ld lq (sym e));
   wait = λ d q ld lq e. absurd (wait_not_send shape d c q (sym e));
@@ -76,7 +77,7 @@ raises_sends shape c k v lc low others n added f = record {
 }
 
 pub raises_receives : (shape : Shape) (c k : ℕ) (v : Seen) → c < length shape → NoneBelow 0 k (at_channel v.seen c)
-    → MayLift (Legal shape) (Fits shape) maker v (receive_number shape c) k
+    → MayLift (Legal shape) (Fits shape) maker (view_of v) (receive_number shape c) k
 raises_receives shape c k v lc low others n added f = record {
   cell = λ d q ld lq e. absurd (cell_not_receive shape d c q ld lq (sym e));
   wait = λ d q ld lq e. absurd (wait_not_receive shape d c q (sym e));
@@ -90,7 +91,7 @@ raises_receives shape c k v lc low others n added f = record {
 }
 
 pub raises_run : (shape : Shape) (c k : ℕ) (v : Seen) → c < length shape → IsKeptRun v.seen c k
-    → MayLift (Legal shape) (Fits shape) maker v (run_number shape c) k
+    → MayLift (Legal shape) (Fits shape) maker (view_of v) (run_number shape c) k
 raises_run shape c k v lc kept others n added f = record {
   cell = λ d q ld lq e. absurd (cell_not_run shape d c q ld lq (sym e));
   wait = λ d q ld lq e. absurd (wait_not_run shape d c q ld lq (sym e));
@@ -104,7 +105,7 @@ raises_run shape c k v lc kept others n added f = record {
 }
 
 pub raises_decided : (shape : Shape) (c k : ℕ) (v : Seen) → c < length shape → AreDecided shape v.seen c k
-    → MayLift (Legal shape) (Fits shape) maker v (decided_number shape c) k
+    → MayLift (Legal shape) (Fits shape) maker (view_of v) (decided_number shape c) k
 raises_decided shape c k v lc is others n added f = record {
   cell = λ d q ld lq e. absurd (cell_not_decided shape d c q ld lq (sym e));
   wait = λ d q ld lq e. absurd (wait_not_decided shape d c q ld lq (sym e));
@@ -118,7 +119,7 @@ raises_decided shape c k v lc is others n added f = record {
 }
 
 pub raises_mark : (shape : Shape) (c p k : ℕ) (v : Seen) → c < length shape → p ≤ places_at shape c → IsMark shape v.seen c p k
-    → MayLift (Legal shape) (Fits shape) maker v (mark_number shape c p) k
+    → MayLift (Legal shape) (Fits shape) maker (view_of v) (mark_number shape c p) k
 raises_mark shape c p k v lc lp is others n added f = record {
   cell = λ d q ld lq e. absurd (cell_not_mark shape d c q p ld lq (sym e));
   wait = λ d q ld lq e. absurd (wait_not_mark shape d c q p ld lq (sym e));

@@ -1,6 +1,7 @@
 -- What an exchange on the word of a wait, or of a kept element, tells.
 use Rattle.std.proofs.Common.{◌≡◌, ◌⊎◌, ℕ, ◌+◌, ◌*◌, ◌<◌, ◌≤◌, ◌==◌, Bool, true, false, List, [], ◌∷◌, ◌++◌, length, if◌then◌else◌, Option, Some, None, is_some, sym, refl, ap, ◌∙◌, subst, ⊎_elim, inl, append_assoc, MatchBool, eq-eqb, ne_eqb}
 use Rattle.std.proofs.lemmas.Bool.{eqb-true}
+use Rattle.co_base.proofs.Orders.{order_then}
 use Rattle.co_base.specs.declared.names.WaitId.{WaitId}
 use Rattle.channel_model.specs.declared.acts.Act.TheVariants.{Hand}
 use Rattle.channel_model.specs.declared.acts.Entry.{Entry}
@@ -69,6 +70,7 @@ sees_turns shape word old e u v w s t = record {
         ∙ ap (λ (l : List Entry). l ++ entries_of maker tag t.made.others) (s.apart tag h) ∙ t.made.apart tag (ap (has_tag tag) s.tags ∙ h);
     tags = t.made.tags ∙ s.tags;
     giving = t.made.giving ∙ s.giving;
+    order = order_then u.order v.order w.order s.order t.made.order;
   };
   found = subst (λ (l : List Entry). Fits shape l word old) same t.found;
 }

@@ -2,6 +2,7 @@
 use Rattle.std.proofs.Common.{◌≡◌, ℕ, ◌+◌, ◌%◌, ◌<◌, ◌≤◌, nat_le, Bool, true, false, List, [], ◌∷◌, ◌++◌, if◌then◌else◌, Option, Some, None, sym, refl, ap, ◌∙◌, subst, inl, inr, arith, append_assoc}
 use Rattle.std.specs.List.{list_all}
 use Rattle.std.proofs.lemmas.Bool.Decides.{nat_tests}
+use Rattle.co_base.proofs.Orders.{order_then}
 use mathlib.Core.Logic.{dite}
 use native.Mathlib.Decide.{ℕ_discrete}
 use Rattle.worded.specs.Views.{has_tag}
@@ -49,7 +50,7 @@ use Rattle.cell_words.proofs.CellsTellFacts.{now, tied_now, used_given, free_end
 
 -- what a pass has seen is legal
 pub hub_legal : (hub : Hub) (pass : Pass) → IsOf hub pass → Legal (shape_of hub) (seen_by pass).seen
-hub_legal hub pass of = subst (λ (k : Layout). Legal k.kinds (seen_by pass).seen) (key_on pass.seat.me.0 hub.table.shared.key of.1)
+hub_legal hub pass of = subst (λ (k : Layout). Legal k.kinds (seen_by pass).seen) (key_on pass.seat.me.0 hub.table.value.shared.key of.1)
     pass.legal
 
 -- ---- what was seen grows
@@ -62,6 +63,7 @@ sees_then u v w a b = record {
       ∙ b.apart t (ap (has_tag t) a.tags ∙ h);
   tags = b.tags ∙ a.tags;
   giving = b.giving ∙ a.giving;
+  order = order_then u.order v.order w.order a.order b.order;
 }
 
 unfoldable pub sees_makes : (u v w : Seen) (e : Entry) → Sees u v → Makes v e w → Makes u e w
@@ -72,6 +74,7 @@ sees_makes u v w e a b = record {
       ∙ b.apart t (ap (has_tag t) a.tags ∙ h);
   tags = b.tags ∙ a.tags;
   giving = b.giving ∙ a.giving;
+  order = order_then u.order v.order w.order a.order b.order;
 }
 
 -- ---- who waits at a cell

@@ -1,15 +1,18 @@
 -- A hub as it is made.
-use Rattle.std.specs.Prelude.{◌≡◌, ℕ, zero, suc, ◌+◌, ◌*◌, ◌/◌, ◌%◌, ◌<◌, ◌≤◌, List, [], ◌∷◌, ◌++◌, length, refl}
+use Rattle.std.specs.Prelude.{◌≡◌, ℕ, zero, suc, ◌+◌, ◌*◌, ◌/◌, ◌%◌, ◌==◌, ◌<◌, ◌≤◌, Bool, List, [], ◌∷◌, ◌++◌, length, if◌then◌else◌, refl}
 use Rattle.std.proofs.Math.ListN.{get_or-append}
 use Rattle.std.proofs.Math.Seq.{get_or-append_seam}
 use mathlib.Core.Logic.{dite}
 use native.Mathlib.Decide.{ℕ_discrete}
 use Rattle.cell_words.specs.Sizes.{AreFirsts}
-use Rattle.std.proofs.Common.{ap, sym, ◌∙◌, subst, arith, get_or, length-append}
+use Rattle.std.proofs.Common.{ap, sym, ◌∙◌, subst, arith, get_or, length-append, eq-eqb, ne_eqb}
 use Rattle.channel_model.specs.Channels.{Shape, empty, places_at}
 use Rattle.channel_model.specs.Histories.{replay_from, Legal, LegalFrom}
 use Rattle.word_rules.specs.Cells.{board_from}
 use Rattle.word_rules.specs.Words.{base, cells_in, word_count, Fits}
+use Rattle.word_rules.specs.Deeds as rows
+use Rattle.word_rules.specs.declared.size.ForestSize.{ForestSize}
+use Rattle.word_rules.proofs.FirstRows.{first_words_fit}
 use Rattle.cell_words.proofs.LooksAtCells.{none_below_start}
 use Rattle.cell_words.proofs.PlacesDecided.{decided_none}
 
@@ -74,3 +77,30 @@ firsts_more shape i next firsts more e is h = record {
       (λ ne. ap (λ (l : List ℕ). get_or l c 0) e ∙ get_or-append firsts (next ∷ []) 0 c (let k = h.count in omega arith)
       ∙ h.first c (omega arith));
 }
+
+-- ---- the words of rows, behind those of the channels
+
+-- before the root's word all words are free
+pub free_below : (i first n : ℕ) → i < first → ◌≡◌ {A = ℕ} (if i == first then n else 0) 0
+free_below i first n lt = ap (λ (b : Bool). if b then n else 0) (ne_eqb i first (omega (arith, lt)))
+
+-- the words of a forest that has the root alone
+pub first_rows_fit : (ws : List ℕ) (cells channels : ℕ) (size : ForestSize) → ((i : ℕ) → get_or ws i 0 ≡
+    (if i == 8 + (3 * cells + 16 * channels + 1) then (if size.rows == 0 then 0 else 2) else 0)) → (shape kinds : Shape) → shape ≡ kinds
+    → cells ≡ cells_in kinds → channels ≡ length kinds → (i : ℕ) → i < 2 * size.rows
+    → rows.Fits size [] i (get_or ws ((8 + word_count shape) + i) 0)
+first_rows_fit ws cells channels size h shape kinds same total count i lt =
+    first_words_fit (λ j. get_or ws ((8 + word_count shape) + j) 0) each size i
+  where
+    here : 8 + word_count shape ≡ 8 + (3 * cells + 16 * channels + 1)
+    here = let a = ap cells_in same in let b = ap (λ (s : Shape). length s) same in omega (arith, a, b, total, count)
+
+    first : (j : ℕ) → (((8 + word_count shape) + j) == 8 + (3 * cells + 16 * channels + 1)) ≡ (j == 0)
+    first j = dite (ℕ_discrete j 0)
+        (λ e. eq-eqb ((8 + word_count shape) + j) (8 + (3 * cells + 16 * channels + 1)) (omega (arith, e, here)) ∙ sym (eq-eqb j 0 e))
+        (λ ne. ne_eqb ((8 + word_count shape) + j) (8 + (3 * cells + 16 * channels + 1)) (λ k. ne (omega (arith, k, here)))
+        ∙ sym (ne_eqb j 0 ne))
+
+    each : (j : ℕ) → get_or ws ((8 + word_count shape) + j) 0 ≡ (if j == 0 then 2 else 0)
+    each j = h ((8 + word_count shape) + j) ∙ ap (λ (b : Bool). if b then (if size.rows == 0 then 0 else 2) else 0) (first j)
+        ∙ ap (λ (b : Bool). if j == 0 then (if b then 0 else 2) else 0) (ne_eqb size.rows 0 (λ e. omega (arith, e, lt)))

@@ -1,14 +1,15 @@
 -- What holds of a seat of the table, and of what it knows of the channels.
-use Rattle.std.proofs.Common.{◌≡◌, ℕ, ◌^◌, ◌<◌, ◌≤◌, true, List, [], ◌∷◌, ◌++◌, length, sym, ap, ◌∙◌, subst, arith, append-nil}
+use Rattle.std.proofs.Common.{◌≡◌, ℕ, ◌/◌, ◌%◌, ◌^◌, ◌<◌, ◌≤◌, Bool, true, if◌then◌else◌, ne_eqb, List, [], ◌∷◌, ◌++◌, length, sym, ap, ◌∙◌, subst, arith, append-nil}
 use mathlib.Core.Option.{some}
 use Rattle.atomic_table.specs.Seated.{TableId}
 use Rattle.atomic_table.specs.declared.shared.Seat.{Seat}
 use Rattle.worded.specs.declared.view.View.{View}
-use Rattle.worded.specs.Views.{IsIdleSeatOf, SameSeat, is_bare, having_seen, told_by}
+use Rattle.worded.specs.Views.{IsIdleSeatOf, SameSeat, has_tag, is_bare, having_seen, told_by}
 use Rattle.worded.specs.Exchanges.{Loaded, Exchanged}
 use Rattle.worded.proofs.TagsNotGiven.{by_exchange}
 use Rattle.either.specs.declared.Either.{Either}
-use Rattle.joined_words.specs.Parts.{tags_in}
+use Rattle.joined_words.specs.Parts.{tag_in, tags_in}
+use Rattle.joined_words.proofs.PartsOfLists.{has_tag-in}
 use Rattle.channel_model.specs.declared.acts.Entry.{Entry}
 use Rattle.channel_model.specs.Channels.{Shape}
 use Rattle.word_rules.specs.declared.deed.Deed.{Deed}
@@ -26,9 +27,19 @@ pub heard_on : (v : Known) → v.heard_tags ≡ [] → (on_channels v).heard_tag
 unfolding on_channels
 heard_on v is = ap (tags_in 0) is
 
+-- a tag of the channels, as the table has it
+pub whole_tag : (who : ℕ) (v : Known) → has_tag who (on_channels v).tags ≡ true → has_tag (tag_in 0 who) v.tags ≡ true
+unfolding on_channels
+whole_tag who v own = sym (has_tag-in 0 who v.tags (omega arith)) ∙ own
+
+-- a tag of the rows is none of the channels
+pub gave_beside : (t : ℕ) (ts : List ℕ) → tags_in 0 (tag_in 1 t ∷ ts) ≡ tags_in 0 ts
+gave_beside t ts = ap (λ (b : Bool). if b then tag_in 1 t / 2 ∷ tags_in 0 ts else tags_in 0 ts)
+    (ne_eqb (tag_in 1 t % 2) 0 (λ e. omega (arith, e)))
+
 -- ---- how many words
 
-channels_few : (shape : Shape) → length shape ≤ cells_in shape
+pub channels_few : (shape : Shape) → length shape ≤ cells_in shape
 channels_few [] = omega arith
 channels_few (x ∷ xs) = let h = channels_few xs in omega arith
 
@@ -44,6 +55,24 @@ words_few {key = key} s =
 pub words_some : {words cells : ℕ} {key : Layout × ForestSize} {kinds : Shape} {firsts : List ℕ} → IsSized words key kinds firsts cells
     → (words ≡ table_words key) × (0 < table_words key)
 words_some s = (s.wide, omega arith)
+
+-- so has the same table, as it was lent
+pub words_at : {id lent : TableId} {key same : Layout × ForestSize} → lent ≡ id → same ≡ key
+    → (id.words ≡ table_words key) × (table_words key < 2 ^ 64) → (lent.words ≡ table_words same) × (table_words same < 2 ^ 64)
+words_at i k w = (
+  ap (λ (x : TableId). x.words) i ∙ w.0
+      ∙ sym (ap table_words k),
+  subst (λ (x : Layout × ForestSize). table_words x < 2 ^ 64)
+      (sym k) w.1,
+)
+
+pub some_at : {id lent : TableId} {key same : Layout × ForestSize} → lent ≡ id → same ≡ key
+    → (id.words ≡ table_words key) × (0 < table_words key) → (lent.words ≡ table_words same) × (0 < table_words same)
+some_at i k w = (
+  ap (λ (x : TableId). x.words) i ∙ w.0 ∙ sym (ap table_words k),
+  subst (λ (x : Layout × ForestSize). 0 < table_words x)
+      (sym k) w.1,
+)
 
 -- ---- seats that were told nothing
 

@@ -1,6 +1,7 @@
 -- The owner of a wait stays, and a wait that was resolved is settled by its owner, which cannot fail.
 use Rattle.std.proofs.Common.{◌≡◌, ℕ, ◌<◌, ◌≤◌, Bool, true, List, [], ◌∷◌, ◌++◌, length, Option, Some, None, is_some, sym, refl, ap, ◌∙◌, subst}
 use Rattle.worded.specs.Exchanges.{OthersAdded}
+use Rattle.joined_words.specs.Seen.{view_of}
 use Rattle.worded.specs.Views.{has_tag}
 use Rattle.worded.specs.Histories.{entries_of}
 use Rattle.co_base.specs.declared.names.WaitId.{WaitId}
@@ -127,7 +128,7 @@ ready_code who how (Some x) h k = λ i. parts_word (k i) (h.2 i)
 module _ (shape : Shape) (v : Seen) (who c p : ℕ) (how : Resolution) (cancelled : Bool) (own : has_tag who v.tags ≡ true)
     (lc : c < length shape) (lp : p ≤ places_at shape c) (range : HowFits how)
     (ready : IsReadyWait who ((replay v.seen).waits (spot c p))) (is : IsResolvedAs how ((replay v.seen).waits (spot c p))) where
-  settle_legal : (others : List Entry) → OthersAdded (Legal shape) (Fits shape) maker v others
+  settle_legal : (others : List Entry) → OthersAdded (Legal shape) (Fits shape) maker (view_of v) others
       → Legal shape ((v.seen ++ others) ++ record { who = who; act = Settle (spot c p) (outcome_of how cancelled) } ∷ [])
   settle_legal others added = Legal_push shape (v.seen ++ others) (record { who = who; act = Settle (spot c p) (outcome_of how cancelled) })
       added.is_legal

@@ -20,6 +20,7 @@ use Rattle.channel_model.specs.Laws.{NoneBelow, NoOffer, IsResolvedAs}
 use Rattle.channel_model.specs.Owing.{owes_admission_below}
 use Rattle.channel_model.specs.Answers.{IsAdmittedBelow, owner_of_holder}
 use Rattle.std.specs.List.{list_all}
+use Rattle.co_base.proofs.Orders.{order_same}
 use Rattle.channel_model.proofs.Elements.{all_first, all_rest}
 use Rattle.channel_model.proofs.EveryAct.{after_keeps}
 use Rattle.channel_model.proofs.GoneForGood.{none_keeps}
@@ -449,7 +450,7 @@ pub within_places : (shape : Shape) (c p : ℕ) (log : List Entry) → Legal sha
 within_places shape c p log l le = let w = ((sound shape log l).channels c).within in omega arith
 
 pub sees_self : (v : Seen) → Sees v v
-sees_self v = record { others = []; now = sym (append-nil v.seen); apart = λ t h. refl; tags = refl; giving = refl }
+sees_self v = record { others = []; now = sym (append-nil v.seen); apart = λ t h. refl; tags = refl; giving = refl; order = order_same v.order }
 
 pub nothing_now : (shape : Shape) (c mark : ℕ) (u v : Seen) → Sees u v → IsAdmittedBelow shape c mark (replay v.seen)
     → NothingToAdmit shape c mark u v

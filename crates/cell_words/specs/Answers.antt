@@ -12,6 +12,7 @@ use Rattle.channel_model.specs.Histories.{replay, Legal}
 use Rattle.channel_model.specs.Laws.{NoneBelow, IsResolvedAs}
 use Rattle.channel_model.specs.Answers.{first_receiver, first_holder, owner_of_holder, IsOwnWait, IsResolvedWait, IsSpentForOffers, IsSpentForReceives, IsFullToTry, IsEmptyToTry, IsAdmittedBelow}
 use Rattle.worded.specs.Exchanges.{MayEnter}
+use Rattle.joined_words.specs.Seen.{view_of}
 use Rattle.word_rules.specs.declared.cell_word.CellState.TheVariants as cell
 use Rattle.word_rules.specs.declared.cell_word.CellWord.{CellWord}
 use Rattle.word_rules.specs.declared.wait_word.WaitWord.{WaitWord}
@@ -65,7 +66,7 @@ IsNumberedWait shape n log word =
 
 -- whatever others do, this entry is legal while the word is old, and turns it into new
 abbrev pub MayTurn : Shape → ℕ → ℕ → ℕ → Entry → Seen → Type 0
-MayTurn shape word old new e v = MayEnter (Legal shape) (Fits shape) maker v word old new e
+MayTurn shape word old new e v = MayEnter (Legal shape) (Fits shape) maker (view_of v) word old new e
 
 -- the entry was made where the cell was old, or the cell found has another word
 abbrev pub CellAnswer : Shape → ℕ → ℕ → CellWord → Entry → Seen → Seen → Option CellWord → Type 0

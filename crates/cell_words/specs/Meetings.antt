@@ -1,6 +1,6 @@
 -- What passes have seen of one another.
 use Rattle.std.specs.Prelude.{◌≡◌, ℕ, List}
-use Rattle.worded.specs.Steps as steps
+use Rattle.joined_words.specs.Seen as steps
 use Rattle.channel_model.specs.declared.acts.Entry.{Entry}
 use Rattle.channel_model.specs.Histories.{acts_of}
 use Rattle.cell_words.specs.Seen.{Seen}

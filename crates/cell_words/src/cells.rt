@@ -39,6 +39,7 @@ pub fn kind_of(hub: &Hub, c: ChannelId) -> Kind
 }
 
 /// The word of a cell, by the cell's number.
+#[inline(always)]
 pub(crate) fn load_numbered_cell(hub: &Hub, pass: &mut Pass, who: Tag, cell: usize) -> CellWord
     requires own { IsOwn hub.now pass.old who }
     requires number { IsNumber (shape_of hub.now) cell }
@@ -54,6 +55,7 @@ pub(crate) fn load_numbered_cell(hub: &Hub, pass: &mut Pass, who: Tag, cell: usi
 }
 
 /// The word of a cell.
+#[inline(always)]
 pub fn load_cell(hub: &Hub, pass: &mut Pass, who: Tag, c: ChannelId, place: Place) -> CellWord
     requires own { IsOwn hub.now pass.old who }
     requires at { IsCell (shape_of hub.now) c place }

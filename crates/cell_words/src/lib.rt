@@ -89,7 +89,8 @@
 //!
 //! **The table.** A hub stands on the first part of a table with two histories (`joined_words`), whose second part is for Jobs
 //! (`word_rules`). Eight words that stay 0 come first; so a step adds 8 to the number of its word, and passes meet by loads of the first
-//! word. Each hub has a table of its own as yet, without rows.
+//! word. A hub alone has a table without rows. One that was made with rows shares its table with a forest on the second part; then its first
+//! pass gives out the tags of both, and knows that nobody acted under one that it has not given out.
 //!
 //! **The history.** It is that of the channels, a list of entries; all words are a function of it, except for the counters, the run, the
 //! decided places and the marks (`Words` of `word_rules` has it).

@@ -6,6 +6,7 @@ ghost use Rattle.cell_words.specs.Seen.{Sees, ExchangeAnswer};
 ghost use Rattle.cell_words.specs.Answers.{MayTurn};
 ghost use Rattle.channel_model.specs.Histories.{Legal};
 ghost use Rattle.worded.specs.Exchanges.{MayLift};
+ghost use Rattle.joined_words.specs.Seen.{view_of};
 
 use crate::hub::Hub;
 use crate::pass::Pass;
@@ -65,7 +66,7 @@ pub(crate) fn exchange_word(
 pub(crate) fn lift_word(hub: &Hub, pass: &mut Pass, who: Tag, word: usize, least: u64)
     requires own { IsOwn hub.now pass.old who }
     requires word { word < word_count (shape_of hub.now) }
-    requires may { MayLift (Legal (shape_of hub.now)) (Fits (shape_of hub.now)) maker (seen_by pass.old) word least }
+    requires may { MayLift (Legal (shape_of hub.now)) (Fits (shape_of hub.now)) maker (view_of (seen_by pass.old)) word least }
     ensures own { IsOwn hub.now pass.new who }
     ensures same { seen_by pass.new ≡ seen_by pass.old }
 {

@@ -23,12 +23,14 @@ use Rattle.job_model.proofs.Reasons.{reason_holds_on}
 use Rattle.worded.specs.Views.{has_tag}
 use Rattle.worded.specs.Histories.{entries_of}
 use Rattle.worded.specs.Exchanges.{OthersAdded, MayEnter}
+use Rattle.joined_words.specs.Seen.{view_of}
 use Rattle.word_rules.specs.declared.job_word.JobWord.{JobWord}
 use Rattle.word_rules.specs.declared.size.ForestSize.{ForestSize}
 use Rattle.word_rules.specs.declared.deed.Deed.{Deed}
 use Rattle.word_rules.specs.declared.deed.Deed.TheVariants.{Act}
 use Rattle.word_rules.specs.Rows.{job_code, IsNarrow, word_of, rest_of, cause_code, rest_after_body, word_without_body, cause_from, end_from}
 use Rattle.word_rules.specs.Deeds.{shape_of, IsSize, doer, history_of, store_of, Store, IsDone, Fits, job_word, IsSmallCause, IsSmall, IsSmallRow}
+use Rattle.co_base.proofs.Orders.{order_same}
 use Rattle.job_words.specs.Passes.{Seen, floor_of}
 use Rattle.job_words.specs.Attaches.{IsAttached}
 use Rattle.job_words.proofs.DeedsAddUp.{tree_is, is_legal, history-append, no_deeds}
@@ -39,7 +41,7 @@ use Rattle.job_words.proofs.MayExchange.{Turns, store_now, brings_job, lasts_mor
 
 -- the Job of a row that was seen attached, whatever others did
 now_job : (size : ForestSize) (v : Seen) (others : List Deed) (r : ℕ) (w : JobWord) → IsSize size
-    → OthersAdded (IsDone (shape_of size)) (Fits size) doer v others → IsAttached v r → IsNarrow w
+    → OthersAdded (IsDone (shape_of size)) (Fits size) doer (view_of v) others → IsAttached v r → IsNarrow w
     → job_code w ≡ job_word (store_now v others) r
     → (j : Job) × ((store_now v others).tree r ≡ Some j) × (word_of j ≡ w)
 now_job size v others r w s now a n found = read_word size (v.seen
@@ -64,7 +66,7 @@ started_word j w e n = λ i. record {
 
 pub starts_row : (size : ForestSize) (v : Seen) (who r : ℕ) (w : JobWord) → IsSize size → has_tag who v.tags ≡ true → IsAttached v r
     → IsNarrow w → w.state ≡ New
-    → MayEnter (IsDone (shape_of size)) (Fits size) doer v (2 * r) (job_code w) (job_code (record w { state = Active }))
+    → MayEnter (IsDone (shape_of size)) (Fits size) doer (view_of v) (2 * r) (job_code w) (job_code (record w { state = Active }))
     (Act (record { who = who; act = Start r }))
 starts_row size v who r w s own a n new = brings_job size v _ r (job_code w) (job_code (record w { state = Active })) own
     (λ others now found.
@@ -96,13 +98,15 @@ pub own_body_now : (size : ForestSize) (tags : List ℕ) (xs others : List Deed)
 own_body_now size tags xs others who row h p m =
     let n = no_deeds who others p in
     subst (λ (t : Tree). MayEndBody who (t row)) (sym (tree_is (xs ++ others)))
-    (own_body_kept who row [] [] (floor_of size tags xs) (floor_of size tags (xs ++ others)) (is_legal (shape_of size) (xs ++ others) h)
-    (added_looked who [] (floor_of size tags xs) (floor_of size tags (xs ++ others)) (looked_of size tags xs others who [] h n.0 n.1)) refl
+    (own_body_kept who row [] [] (floor_of size tags xs []) (floor_of size tags (xs ++ others) [])
+    (is_legal (shape_of size) (xs ++ others) h)
+    (added_looked who [] (floor_of size tags xs []) (floor_of size tags (xs ++ others) [])
+    (looked_of size tags xs others who [] [] [] h n.0 n.1 (order_same []))) refl
     (subst (λ (t : Tree). MayEndBody who (t row)) (tree_is xs) m))
 
 pub ends_body_row : (size : ForestSize) (v : Seen) (who r value : ℕ) (w : JobWord) → IsSize size → has_tag who v.tags ≡ true
     → IsAttached v r → IsNarrow w → value < 4294967296 → MayEndBody who ((store_of v.seen).tree r)
-    → MayEnter (IsDone (shape_of size)) (Fits size) doer v (2 * r) (job_code w) (job_code (word_without_body value w))
+    → MayEnter (IsDone (shape_of size)) (Fits size) doer (view_of v) (2 * r) (job_code w) (job_code (word_without_body value w))
     (Act (record { who = who; act = EndBody r value }))
 ends_body_row size v who r value w s own a n lt may = brings_job size v _ r (job_code w) (job_code (word_without_body value w)) own
     (λ others now found.
@@ -162,7 +166,7 @@ finishing rows j w end few sm c e b l n =
 
 pub finishes_row : (size : ForestSize) (v : Seen) (who r : ℕ) (w : JobWord) (end : End) → IsSize size → has_tag who v.tags ≡ true
     → IsAttached v r → IsNarrow w → w.body_ended ≡ true → w.living ≡ 0 → end_from w w.state ≡ Some end
-    → MayEnter (IsDone (shape_of size)) (Fits size) doer v (2 * r) (job_code w) (job_code (record w { state = state_of_end end }))
+    → MayEnter (IsDone (shape_of size)) (Fits size) doer (view_of v) (2 * r) (job_code w) (job_code (record w { state = state_of_end end }))
     (Act (record { who = who; act = Finish r end }))
 finishes_row size v who r w end s own a n b l e = brings_job size v _ r (job_code w) (job_code (record w { state = state_of_end end })) own
     (λ others now found.
@@ -184,8 +188,10 @@ pub own_gone_now : (size : ForestSize) (tags : List ℕ) (xs others : List Deed)
 own_gone_now size tags xs others who row h p m =
     let n = no_deeds who others p in
     subst (MayTell who row) (sym (tree_is (xs ++ others)))
-    (own_gone_kept who row [] [] (floor_of size tags xs) (floor_of size tags (xs ++ others)) (is_legal (shape_of size) (xs ++ others) h)
-    (added_looked who [] (floor_of size tags xs) (floor_of size tags (xs ++ others)) (looked_of size tags xs others who [] h n.0 n.1)) refl
+    (own_gone_kept who row [] [] (floor_of size tags xs []) (floor_of size tags (xs ++ others) [])
+    (is_legal (shape_of size) (xs ++ others) h)
+    (added_looked who [] (floor_of size tags xs []) (floor_of size tags (xs ++ others) [])
+    (looked_of size tags xs others who [] [] [] h n.0 n.1 (order_same []))) refl
     (subst (MayTell who row) (tree_is xs) m))
 
 -- a child that was not told gone lives
@@ -205,7 +211,7 @@ told_word r j w n e k l =
 
 pub tells_row : (size : ForestSize) (v : Seen) (who r p n : ℕ) (w : JobWord) → IsSize size → has_tag who v.tags ≡ true → IsAttached v p
     → IsNarrow w → MayTell who r (store_of v.seen).tree → parent_of ((store_of v.seen).tree r) ≡ Some p → n + 1 ≡ w.living
-    → MayEnter (IsDone (shape_of size)) (Fits size) doer v (2 * p) (job_code w) (job_code (record w { living = n }))
+    → MayEnter (IsDone (shape_of size)) (Fits size) doer (view_of v) (2 * p) (job_code w) (job_code (record w { living = n }))
     (Act (record { who = who; act = Gone r }))
 tells_row size v who r p n w s own a nw may parent is =
     brings_job size v _ p (job_code w) (job_code (record w { living = n })) own (λ others now found.
@@ -238,7 +244,7 @@ pub cancels_row : (size : ForestSize) (v : Seen) (who r : ℕ) (reason : Reason)
     → has_tag who v.tags ≡ true → IsAttached v r → IsNarrow w → is_cancellable w.state ≡ true
     → Holds (shape_of size) (store_of v.seen).tree who r reason
     → ((others : List Deed) → IsDone (shape_of size) (v.seen ++ others) → cause_of_reason (store_of (v.seen ++ others)).tree reason ≡ c)
-    → MayEnter (IsDone (shape_of size)) (Fits size) doer v (2 * r) (job_code w)
+    → MayEnter (IsDone (shape_of size)) (Fits size) doer (view_of v) (2 * r) (job_code w)
     (job_code (record w { state = Cancelling; rest = cause_code c })) (Act (record { who = who; act = Cancel r reason }))
 cancels_row size v who r reason c w s own a n live h cause =
     brings_job size v _ r (job_code w) (job_code (record w { state = Cancelling; rest = cause_code c })) own (λ others now found.

@@ -2,6 +2,7 @@
 use Rattle.std.specs.Prelude.{◌≡◌, ℕ, suc, ◌<◌, ◌≤◌, Bool, List, [], ◌∷◌, Ok, Err, refl}
 use Rattle.std.proofs.Common.{sym, subst, arith, append-nil}
 use mathlib.Core.Logic.{dite}
+use Rattle.co_base.proofs.Orders.{order_same}
 use native.Mathlib.Decide.{ℕ_discrete}
 use Rattle.job_model.specs.declared.acts.JobAct.{JobAct}
 use Rattle.job_model.specs.declared.acts.JobAct.TheVariants.{Attach}
@@ -30,8 +31,8 @@ goes_self who v idle h = record {
   rows = refl;
   tags = refl;
   key = refl;
-  giving =
-      refl;
+  giving = refl;
+  order = order_same v.order;
   idle = idle;
   done = h;
 }

@@ -15,6 +15,7 @@ use Rattle.job_model.specs.Families.{newest, children_of}
 use Rattle.job_model.proofs.Lasting.{Lasts, history_keeps, attached_lasts}
 use Rattle.worded.specs.Views.{has_tag}
 use Rattle.worded.specs.Exchanges.{OthersAdded, MayEnter, MayLift}
+use Rattle.joined_words.specs.Seen.{view_of}
 use Rattle.word_rules.specs.declared.job_word.JobWord.{JobWord}
 use Rattle.word_rules.specs.declared.size.ForestSize.{ForestSize}
 use Rattle.word_rules.specs.declared.deed.Deed.{Deed}
@@ -116,7 +117,7 @@ fits_link size log d p n pz h t = (
 )
 
 abbrev Now : ForestSize → Seen → List Deed → Type 0
-Now size v others = OthersAdded (IsDone (shape_of size)) (Fits size) doer v others
+Now size v others = OthersAdded (IsDone (shape_of size)) (Fits size) doer (view_of v) others
 
 -- the store that was seen, and what others did
 abbrev pub store_now : Seen → List Deed → Store
@@ -125,7 +126,7 @@ store_now v others = store_of (v.seen ++ others)
 pub brings_job : (size : ForestSize) (v : Seen) (d : Deed) (p old new : ℕ) → has_tag (doer d) v.tags ≡ true
     → ((others : List Deed) → Now size v others → old ≡ job_word (store_now v others) p → DeedNeeds (shape_of size) (store_now v others) d
     × Turns (store_now v others) (after_deed (store_now v others) d) p new)
-    → MayEnter (IsDone (shape_of size)) (Fits size) doer v (2 * p) old new d
+    → MayEnter (IsDone (shape_of size)) (Fits size) doer (view_of v) (2 * p) old new d
 brings_job size v d p old new own f = record {
   own = own;
   steps = λ others since found.
@@ -142,7 +143,7 @@ pub brings_link : (size : ForestSize) (v : Seen) (d : Deed) (p old new : ℕ) �
     → (store_of v.seen).tree p ≡ None
     → ((others : List Deed) → Now size v others → MayBeLink (store_now v others) p old → DeedNeeds (shape_of size) (store_now v others) d
     × TurnsLink (store_now v others) (after_deed (store_now v others) d) p new)
-    → MayEnter (IsDone (shape_of size)) (Fits size) doer v (2 * p + 1) old new d
+    → MayEnter (IsDone (shape_of size)) (Fits size) doer (view_of v) (2 * p + 1) old new d
 brings_link size v d p old new own none f = record {
   own = own;
   steps = λ others since found.
@@ -230,7 +231,7 @@ stored_turns s t r n tree links none here apart = record {
 }
 
 pub claims : (size : ForestSize) (v : Seen) (who row : ℕ) → IsSize size → has_tag who v.tags ≡ true → row < size.rows
-    → MayEnter (IsDone (shape_of size)) (Fits size) doer v (2 * row) 0 7 (Claim who row)
+    → MayEnter (IsDone (shape_of size)) (Fits size) doer (view_of v) (2 * row) 0 7 (Claim who row)
 claims size v who row s own lt = brings_job size v (Claim who row) row 0 7 own (λ others now found.
     let k = kept size (v.seen ++ others) s now.is_legal in
     let t : Store = store_now v others in
@@ -242,7 +243,7 @@ claims size v who row s own lt = brings_job size v (Claim who row) row 0 7 own (
     ))
 
 pub stores_job : (size : ForestSize) (v : Seen) (who row l old new : ℕ) → has_tag who v.tags ≡ true → IsMine who row l old (store_of v.seen)
-    → 0 < new → MayEnter (IsDone (shape_of size)) (Fits size) doer v (2 * row) old new (StoreJob who row new)
+    → 0 < new → MayEnter (IsDone (shape_of size)) (Fits size) doer (view_of v) (2 * row) old new (StoreJob who row new)
 stores_job size v who row l old new own m lt = brings_job size v (StoreJob who row new) row old new own (λ others now found.
     let t : Store = store_now v others in
     let n = mine_now size v others who row l old own now m in (
@@ -253,7 +254,7 @@ stores_job size v who row l old new own m lt = brings_job size v (StoreJob who r
 
 pub stores_link : (size : ForestSize) (v : Seen) (who row old j new : ℕ) → has_tag who v.tags ≡ true
     → IsMine who row old j (store_of v.seen) → IsLinkTo (store_of v.seen) new → new < 140737488355328
-    → MayEnter (IsDone (shape_of size)) (Fits size) doer v (2 * row + 1) old new (StoreLink who row new)
+    → MayEnter (IsDone (shape_of size)) (Fits size) doer (view_of v) (2 * row + 1) old new (StoreLink who row new)
 stores_link size v who row old j new own m link lt = brings_link size v (StoreLink who row new) row old new own m.tree (λ others now found.
     let t : Store = store_now v others in
     let n = mine_now size v others who row old j own now m in (
@@ -308,7 +309,7 @@ pub attaches_row : (size : ForestSize) (v : Seen) (who p r : ℕ) (kind : JobKin
     → IsMine who r (link_code (new_link p w.first_child tag kind)) (job_code (new_word kind cancelled)) (store_of v.seen)
     → is_some ((store_of v.seen).tree p) ≡ true → IsNarrow w → is_ended w.state ≡ false → cancelled ≡ is_cancelled w.state
     → tag < size.coroutines → IsRowFor (shape_of size) who kind tag r
-    → MayEnter (IsDone (shape_of size)) (Fits size) doer v (2 * p) (job_code w) (job_code (with_newest r w))
+    → MayEnter (IsDone (shape_of size)) (Fits size) doer (view_of v) (2 * p) (job_code w) (job_code (with_newest r w))
     (Act (record { who = who; act = Attach p r kind tag cancelled }))
 attaches_row size v who p r kind tag cancelled w s own m a n alive c lt row =
     brings_job size v _ p (job_code w) (job_code (with_newest r w)) own (λ others now found.
@@ -339,7 +340,8 @@ change_turns s r f j e = record {
 
 -- the hint that it was attached may be raised in the link word of a child
 pub lifts_attached : (size : ForestSize) (v : Seen) (row link : ℕ) → row ≢ 0 → is_some ((store_of v.seen).tree row) ≡ true
-    → (store_of v.seen).links row ≡ link → MayLift (IsDone (shape_of size)) (Fits size) doer v (2 * row + 1) (link + 140737488355328)
+    → (store_of v.seen).links row ≡ link → MayLift (IsDone (shape_of size)) (Fits size) doer (view_of v) (2 * row + 1)
+    (link + 140737488355328)
 lifts_attached size v row link rz a e others n now f = record {
   job = λ r i. absurd (omega arith);
   link = λ r nz i. let k : row ≡ r = omega arith in subst (λ q. MayBeLink (store_now v others) q (max n (link + 140737488355328))) k
@@ -366,7 +368,7 @@ lifts_attached size v row link rz a e others n now f = record {
 
 -- and the hint from where on to look for a row for a scope
 pub lifts_scopes : (size : ForestSize) (v : Seen) (least : ℕ) → AreClaimedBelow size (store_of v.seen) least
-    → MayLift (IsDone (shape_of size)) (Fits size) doer v 1 least
+    → MayLift (IsDone (shape_of size)) (Fits size) doer (view_of v) 1 least
 lifts_scopes size v least a others n now f = record {
   job = λ r i. absurd (omega arith);
   link = λ r nz i. absurd (nz (omega arith));

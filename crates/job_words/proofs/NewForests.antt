@@ -1,6 +1,7 @@
 -- A forest as it is made.
 use Rattle.std.specs.Prelude.{◌≡◌, ◌≢◌, ℕ, ◌+◌, ◌*◌, ◌==◌, ◌<◌, Bool, true, false, List, [], ◌∷◌, length, Some, None, option_map, if◌then◌else◌, refl}
 use Rattle.std.proofs.Common.{inl, sym, ap, ◌∙◌, subst, arith, get_or, eq-eqb, ne_eqb}
+use Rattle.co_base.specs.Orders.{Side}
 use mathlib.Core.Logic.{dite}
 use native.Mathlib.Decide.{ℕ_discrete}
 use Rattle.job_model.specs.Trees.{Shape, root}
@@ -15,32 +16,8 @@ use Rattle.word_rules.specs.Words as cells
 use Rattle.word_rules.specs.declared.size.ForestSize.{ForestSize}
 use Rattle.word_rules.specs.Rows.{word_of}
 use Rattle.word_rules.specs.Deeds.{history_of, store_from, store_of, job_word, word_or, DoneFrom, IsDone, Fits}
+use Rattle.word_rules.proofs.FirstRows.{first_words_fit}
 use Rattle.job_words.specs.Passes.{floor_of}
-
-pub nothing_yet : (shape : Shape) → IsDone shape []
-unfolding DoneFrom
-nothing_yet shape = tt
-
-first_job : (r : ℕ) → job_word (store_of []) r ≡ (if (2 * r) == 0 then 2 else 0)
-unfolding store_from
-first_job r = dite (ℕ_discrete r 0)
-    (λ e. ap (λ (n : ℕ). job_word (store_of []) n) e ∙ sym (ap (λ (b : Bool). if b then 2 else 0) (eq-eqb (2 * r) 0 (omega arith))))
-    (λ ne. ap2 (ne_eqb r 0 ne) ∙ sym (ap (λ (b : Bool). if b then 2 else 0) (ne_eqb (2 * r) 0 (λ k. ne (omega arith)))))
-  where
-    ap2 : (r == 0) ≡ false → job_word (store_of []) r ≡ 0
-    ap2 e = ap (λ (b : Bool). word_or (if b then 7 else 0) (option_map word_of (if b then Some root else None))) e
-
-first_link : (r : ℕ) → (store_of []).links r ≡ 0
-unfolding store_from
-first_link r = refl
-
-first_words_fit : (n : ℕ → ℕ) → ((i : ℕ) → n i ≡ (if i == 0 then 2 else 0)) → (size : ForestSize) (i : ℕ) → Fits size [] i (n i)
-first_words_fit n h size i = record {
-  job = λ r e. h i ∙ ap (λ (n : ℕ). if n == 0 then 2 else 0) e ∙ sym (first_job r);
-  link = λ r ne e. inl (h i ∙ ap (λ (b : Bool). if b then 2 else 0)
-      (ne_eqb i 0 (λ z. absurd (let k : 0 ≡ 2 * r + 1 = sym z ∙ e in omega arith))) ∙ sym (first_link r));
-  hint = λ e r le lt. absurd (let k : n i ≡ 0 = h i ∙ ap (λ (n : ℕ). if n == 0 then 2 else 0) e in omega arith);
-}
 
 -- the word that the root has, by its place among those of the forest
 ninth : (i : ℕ) → ◌≡◌ {A = ℕ} (if (9 + i) == 9 then 2 else 0) (if i == 0 then 2 else 0)
@@ -111,7 +88,8 @@ module _ {E K : Type 0} (legal : List E → Type 0) (fits : List E → ℕ → �
       (λ i. ((ev ∙ ap (λ y. next_given (with_next y 1)) eu) i, (ex ∙ ap (λ y. new_view (with_next y 1)) eu) i)) m in
       m'.now ∙ ap (having_seen (told_by giver given)) (none_added w m')
 
-pub fresh : (size : ForestSize) (tags : List ℕ) → IsFreshFloor (record { coroutines = size.coroutines; rows = size.rows })
-    (floor_of size tags [])
+pub fresh : (size : ForestSize) (tags : List ℕ) (order : List Side)
+    → IsFreshFloor (record { coroutines = size.coroutines; rows = size.rows })
+    (floor_of size tags [] order)
 unfolding history_of store_from
-fresh size tags = record { shape = refl; seen = refl; claims = λ r. refl }
+fresh size tags order = record { shape = refl; seen = refl; claims = λ r. refl }

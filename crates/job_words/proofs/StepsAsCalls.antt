@@ -1,8 +1,10 @@
 -- What steps come to as calls of a floor.
 use Rattle.std.specs.Prelude.{◌≡◌, ℕ, Bool, true, false, ◌||◌, List, [], ◌∷◌, ◌++◌, Option, Some, None, is_some, if◌then◌else◌, refl}
+use Rattle.co_base.proofs.Orders.{order_then}
 use Rattle.std.proofs.Common.{sym, ap, ◌∙◌, subst, arith, append_assoc, append-nil}
 use Rattle.std.proofs.lemmas.Bool.{eq-eqb}
 use mathlib.Core.List.{IsPrefix}
+use Rattle.co_base.specs.Orders.{Side}
 use Rattle.job_model.specs.declared.acts.JobAct.{JobAct}
 use Rattle.job_model.specs.Trees.{IsShape, Tree, is_among}
 use Rattle.job_model.specs.Histories.{replay, acts_of}
@@ -20,9 +22,9 @@ use Rattle.job_words.proofs.DeedsAddUp.{store_more, IsDone-rest, history-append,
 
 -- ---- the laws of what was seen
 
-pub has_claims : (size : ForestSize) (tags : List ℕ) (log : List Deed) → IsShape (shape_of size) → IsDone (shape_of size) log
-    → HasClaims (floor_of size tags log)
-has_claims size tags log s h = record {
+pub has_claims : (size : ForestSize) (tags : List ℕ) (log : List Deed) (order : List Side) → IsShape (shape_of size)
+    → IsDone (shape_of size) log → HasClaims (floor_of size tags log order)
+has_claims size tags log order s h = record {
   root = claims_root log h;
   attached = λ r t a. attacher_claimed (shape_of size) log r t h a;
   within = λ r le. claims_within (shape_of size) log (omega (arith, s.some, s.fit)) h r le;
@@ -36,10 +38,10 @@ has_claims size tags log s h = record {
 false_not : {P : Type 0} → false ≡ true → P
 false_not e = absurd (let k : false ≡ true = e in cc)
 
-pub claimed_of : (size : ForestSize) (tags us : List ℕ) (xs rest : List Deed) (who : ℕ) (rows : List ℕ)
+pub claimed_of : (size : ForestSize) (tags us : List ℕ) (xs rest : List Deed) (before after : List Side) (who : ℕ) (rows : List ℕ)
     → IsDone (shape_of size) (xs ++ rest) → rows_claimed (entries_of doer who rest) ≡ rows
-    → Claimed who rows (floor_of size tags xs) (floor_of size us (xs ++ rest))
-claimed_of size tags us xs rest who rows h e = let d = (IsDone-rest (shape_of size) xs rest h).1 in record {
+    → Claimed who rows (floor_of size tags xs before) (floor_of size us (xs ++ rest) after)
+claimed_of size tags us xs rest before after who rows h e = let d = (IsDone-rest (shape_of size) xs rest h).1 in record {
   kept = λ r t k. ap (λ s. s.claimer r) (store_more xs rest) ∙ claims_kept (shape_of size) (store_of xs) rest r t d k;
   fresh = λ r k. claims_fresh (shape_of size) (store_of xs) rest who r d (ap (is_among r) e ∙ k);
   mine = λ r. ap (λ s. is_claimed_by who (s.claimer r)) (store_more xs rest) ∙ claims_mine (shape_of size) (store_of xs) rest who r d
@@ -53,26 +55,26 @@ mine_of xs rest who e =
     ap (acts_of who) (history-append xs rest) ∙ acts_of-append who (history_of xs) (history_of rest)
     ∙ ap (λ l. acts_of who (history_of xs) ++ l) (no_acts who rest e) ∙ append-nil (acts_of who (history_of xs))
 
-pub looked_of : (size : ForestSize) (tags : List ℕ) (xs rest : List Deed) (who : ℕ) (rows : List ℕ) → IsDone (shape_of size) (xs ++ rest)
-    → history_of (entries_of doer who rest) ≡ [] → rows_claimed (entries_of doer who rest) ≡ rows
-    → Looked who rows (floor_of size tags xs) (floor_of size tags (xs ++ rest))
-looked_of size tags xs rest who rows h m e = record {
-  same = record { shape = refl; alone = refl; callers = refl };
+pub looked_of : (size : ForestSize) (tags : List ℕ) (xs rest : List Deed) (who : ℕ) (rows : List ℕ) (before after : List Side)
+    → IsDone (shape_of size) (xs ++ rest) → history_of (entries_of doer who rest) ≡ [] → rows_claimed (entries_of doer who rest) ≡ rows
+    → IsPrefix before after → Looked who rows (floor_of size tags xs before) (floor_of size tags (xs ++ rest) after)
+looked_of size tags xs rest who rows before after h m e order = record {
+  same = record { shape = refl; alone = refl; callers = refl; order = order; joint = refl };
   longer = (history_of rest, sym (history-append xs rest));
   mine = mine_of xs rest who m;
   alone = λ k. false_not k;
   spare = omega arith;
-  claims = claimed_of size tags tags xs rest who rows h e;
+  claims = claimed_of size tags tags xs rest before after who rows h e;
 }
 
 -- a call that made no entry
 pub looked : (who : ℕ) (rows : List ℕ) (v w : Seen) → Goes who rows v w → Looked who rows (floor_seen v) (floor_seen w)
 looked who rows v w g =
     subst (λ (f : Floor). Looked who rows (floor_seen v) f) (sym is)
-    (looked_of v.key v.tags v.seen g.rest who rows (subst (IsDone (shape_of v.key)) g.seen g.done) g.mine g.rows)
+    (looked_of v.key v.tags v.seen g.rest who rows v.order w.order (subst (IsDone (shape_of v.key)) g.seen g.done) g.mine g.rows g.order)
   where
-    is : floor_seen w ≡ floor_of v.key v.tags (v.seen ++ g.rest)
-    is = λ i. floor_of (g.key i) (g.tags i) (g.seen i)
+    is : floor_seen w ≡ floor_of v.key v.tags (v.seen ++ g.rest) w.order
+    is = λ i. floor_of (g.key i) (g.tags i) (g.seen i) w.order
 
 own_entry : (who : ℕ) (act : JobAct) → history_of (Act (record { who = who; act = act }) ∷ []) ≡ record { who = who; act = act } ∷ []
 unfolding history_of
@@ -88,7 +90,13 @@ pub made_with : (who : ℕ) (act : JobAct) (rows : List ℕ) (word old : ℕ) (v
 unfolding rows_claimed
 made_with who act rows word old v m w g d = (
   record {
-    same = record { shape = ap shape_of (d.key ∙ g.key); alone = refl; callers = ap callers_of (d.tags ∙ g.tags) };
+    same = record {
+      shape = ap shape_of (d.key ∙ g.key);
+      alone = refl;
+      callers = ap callers_of (d.tags ∙ g.tags);
+      order = order_then v.order m.order w.order g.order d.order;
+      joint = refl;
+    };
     before = history_of (m.seen ++ d.others);
     longer = (history_of more, sym (ap history_of there ∙ history-append v.seen more));
     mine = ap (λ l. acts_of who (history_of l)) there ∙ mine_of v.seen more who no_entry;
@@ -96,9 +104,9 @@ made_with who act rows word old v m w g d = (
         ∙ ap (λ l. history_of (m.seen ++ d.others) ++ l) (own_entry who act);
     alone = λ k. false_not k;
     spare = omega arith;
-    claims = subst (λ (x : ForestSize × List Deed). Claimed who rows (floor_seen v) (floor_of x.0 w.tags x.1))
+    claims = subst (λ (x : ForestSize × List Deed). Claimed who rows (floor_seen v) (floor_of x.0 w.tags x.1 w.order))
         (λ i. (sym (d.key ∙ g.key) i, sym (seen ∙ append_assoc v.seen more (e ∷ [])) i))
-        (claimed_of v.key v.tags w.tags v.seen (more ++ e ∷ []) who rows done claims);
+        (claimed_of v.key v.tags w.tags v.seen (more ++ e ∷ []) v.order w.order who rows done claims);
   },
   refl,
 )
@@ -153,6 +161,7 @@ goes_trans who rows more u v w a b = record {
   tags = b.tags ∙ a.tags;
   key = b.key ∙ a.key;
   giving = b.giving ∙ a.giving;
+  order = order_then u.order v.order w.order a.order b.order;
   idle = b.idle;
   done = subst (λ (k : ForestSize). IsDone (shape_of k) w.seen) a.key b.done;
 }
@@ -173,6 +182,7 @@ does_goes who d rows word old v w is e c g = record {
   tags = g.tags;
   key = g.key;
   giving = g.giving;
+  order = g.order;
   idle = g.idle;
   done = g.done;
 }
@@ -213,6 +223,7 @@ sees_goes who v w s = record {
   tags = s.tags;
   key = s.key;
   giving = s.giving;
+  order = s.order;
   idle = s.idle;
   done = s.done;
 }

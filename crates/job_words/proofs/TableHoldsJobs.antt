@@ -1,5 +1,6 @@
 -- What holds of a forest's table between any two steps.
 use Rattle.std.proofs.Common.{[], sym, ap, ◌∙◌}
+use Rattle.co_base.proofs.Orders.{order_same}
 use Rattle.atomic_table.specs.Table.{State}
 use Rattle.worded.specs.Histories.{HasOneHistory}
 use Rattle.worded.specs.declared.view.View.{View}
@@ -32,7 +33,8 @@ holds_jobs size s small r = record {
   passes = are_seats (IsDone (shape_of size)) (Fits size) doer (word_count size) history_of acts_of
       (λ xs ys p. (history_of p.0, sym (history-append xs p.0) ∙ ap history_of p.1))
       (λ t xs ys e. acts_of-deeds t ys ∙ ap (λ l. acts_of t (history_of l)) e ∙ sym (acts_of-deeds t xs)) no_acts bare bare_has;
-  claims_seen = λ id rr t v at c. (has_seen size v.key v.tags v.tags v.seen r.log (r.views_fit id v at).begins r.is_legal).claims rr t c;
+  claims_seen = λ id rr t v at c. (has_seen size v.key v.tags v.tags v.seen r.log [] [] (r.views_fit id v at).begins (order_same [])
+      r.is_legal).claims rr t c;
 }
   where
     -- its words and views, without what is carried

@@ -1,6 +1,7 @@
 -- What an act asks, and what one exchange for it comes to.
 use Rattle.std.specs.Prelude.{◌≡◌, ◌≢◌, ℕ, ◌*◌, Bool, true, false, is_some}
 use Rattle.worded.specs.Exchanges.{MayEnter}
+use Rattle.joined_words.specs.Seen.{view_of}
 use Rattle.job_model.specs.declared.acts.JobAct.{JobAct}
 use Rattle.job_model.specs.declared.acts.Cause.{Cause}
 use Rattle.job_model.specs.declared.acts.Reason.{Reason}
@@ -16,7 +17,8 @@ use Rattle.job_words.specs.Passes.{Seen, Sees, Does}
 -- whatever others do, this act of who is legal while the row's Job word is old, and turns it into new
 abbrev pub MayAct : ForestSize → Seen → ℕ → ℕ → JobWord → JobWord → JobAct → Type 0
 MayAct size v who row old new act =
-    MayEnter (IsDone (shape_of size)) (Fits size) doer v (2 * row) (job_code old) (job_code new) (Act (record { who = who; act = act }))
+    MayEnter (IsDone (shape_of size)) (Fits size) doer (view_of v) (2 * row) (job_code old) (job_code new)
+    (Act (record { who = who; act = act }))
 
 -- who made the act where the row's Job word was old; or it has another word
 abbrev pub ActAnswer : ℕ → ℕ → JobWord → JobAct → Seen → Seen → Bool → Type 0

@@ -6,13 +6,16 @@ use Rattle.channel_model.specs.declared.acts.Entry.{Entry}
 use Rattle.channel_model.specs.Histories.{Legal}
 use Rattle.worded.specs.declared.view.View.{View}
 use Rattle.worded.specs.Histories.{HasOneHistory}
-use Rattle.joined_words.specs.Parts.{Part, view_in}
+use Rattle.joined_words.specs.Parts.{Part}
+use Rattle.joined_words.specs.Seen.{seen_in}
 use Rattle.joined_words.specs.Joints.{IsJointLegal, JointFits, joint_who, joint_size, second_part}
 use Rattle.word_rules.specs.declared.layout.Layout.{Layout}
 use Rattle.word_rules.specs.declared.size.ForestSize.{ForestSize}
 use Rattle.word_rules.specs.declared.deed.Deed.{Deed}
 use Rattle.word_rules.specs.Deeds.{shape_of, IsDone, Fits, doer, word_count}
+use Rattle.word_rules.specs.Orders.{sides_of}
 use Rattle.word_rules.specs.Words as cells
+use Rattle.job_words.specs.Passes.{Seen}
 
 -- how many words the channels have
 abbrev pub channel_words : Layout → ℕ
@@ -22,9 +25,9 @@ channel_words layout = cells.word_count layout.kinds
 abbrev pub job_part : Part (Either Entry Deed) (Layout × ForestSize) Deed ForestSize
 job_part = second_part channel_words
 
--- what a seat knows of the Jobs
-abbrev pub jobs_in : View (Either Entry Deed) (Layout × ForestSize) → View Deed ForestSize
-jobs_in v = view_in job_part v
+-- what a seat knows of the Jobs, and the order of all entries that it has seen
+abbrev pub jobs_in : View (Either Entry Deed) (Layout × ForestSize) → Seen
+jobs_in v = seen_in sides_of job_part v
 
 -- how many words the table has
 abbrev pub table_words : Layout × ForestSize → ℕ

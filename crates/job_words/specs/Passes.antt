@@ -1,37 +1,40 @@
 -- What was seen of a forest, and what steps add.
-use Rattle.std.specs.Prelude.{◌≡◌, ℕ, ◌==◌, Bool, false, List, [], ◌∷◌, ◌++◌, Some, None, MatchBool}
+use Rattle.std.specs.Prelude.{◌≡◌, ℕ, ◌==◌, Bool, true, false, List, [], ◌∷◌, ◌++◌, Some, None, MatchBool}
+use mathlib.Core.List.{IsPrefix}
+use Rattle.co_base.specs.Orders.{Side}
 use Rattle.job_model.specs.Floors.{Floor}
 use Rattle.worded.specs.Views.{has_tag}
-use Rattle.worded.specs.Views as views
 use Rattle.worded.specs.Histories.{entries_of}
-use Rattle.worded.specs.declared.view.View.{View}
+use Rattle.joined_words.specs.Seen.{SeenIn}
 use Rattle.word_rules.specs.declared.size.ForestSize.{ForestSize}
 use Rattle.word_rules.specs.declared.deed.Deed.{Deed}
 use Rattle.word_rules.specs.Deeds.{shape_of, doer, history_of, rows_claimed, store_of, Store, IsDone, Fits}
 
--- what a pass knows of its forest
+-- what a pass knows of its forest, and the order of all entries of the table that it has seen
 abbrev pub Seen : Type 0
-Seen = View Deed ForestSize
+Seen = SeenIn Deed ForestSize Side
 
--- the floor that these deeds show to callers of these tags
-abbrev pub floor_of : ForestSize → List ℕ → List Deed → Floor
-floor_of size tags log =
+-- the floor that these deeds show to callers of these tags, with the order that the entries have among those of the table
+abbrev pub floor_of : ForestSize → List ℕ → List Deed → List Side → Floor
+floor_of size tags log order =
     record {
       shape = shape_of size;
       seen = history_of log;
       spare = 4294967296;
       alone = false;
       callers = λ t. has_tag t tags;
+      order = order;
+      joint = true;
       claims = (store_of log).claimer;
     }
 
 -- the floor that a pass shows to its callers
 abbrev pub floor_seen : Seen → Floor
-floor_seen v = floor_of v.key v.tags v.seen
+floor_seen v = floor_of v.key v.tags v.seen v.order
 
 -- whether a pass gives out tags, and which it has given out
 abbrev pub tags_given : Seen → Bool × List ℕ
-tags_given = views.tags_given
+tags_given v = (v.chief, v.given)
 
 -- who claimed these rows and made no entry, after v, which led to w; others may have done theirs
 pub record Goes (who : ℕ) (claimed : List ℕ) (v w : Seen) : Type 0 where
@@ -42,6 +45,7 @@ pub record Goes (who : ℕ) (claimed : List ℕ) (v w : Seen) : Type 0 where
   pub tags : w.tags ≡ v.tags
   pub key : w.key ≡ v.key
   pub giving : tags_given w ≡ tags_given v
+  pub order : IsPrefix v.order w.order
   pub idle : w.heard_tags ≡ []
   pub done : IsDone (shape_of v.key) w.seen
 
@@ -53,6 +57,7 @@ pub record Sees (who : ℕ) (v w : Seen) : Type 0 where
   pub tags : w.tags ≡ v.tags
   pub key : w.key ≡ v.key
   pub giving : tags_given w ≡ tags_given v
+  pub order : IsPrefix v.order w.order
   pub idle : w.heard_tags ≡ []
   pub done : IsDone (shape_of v.key) w.seen
 
@@ -64,6 +69,7 @@ pub record Does (who : ℕ) (d : Deed) (word old : ℕ) (v w : Seen) : Type 0 wh
   pub tags : w.tags ≡ v.tags
   pub key : w.key ≡ v.key
   pub giving : tags_given w ≡ tags_given v
+  pub order : IsPrefix v.order w.order
   pub idle : w.heard_tags ≡ []
   pub done : IsDone (shape_of v.key) w.seen
   pub found : Fits v.key (v.seen ++ others) word old

@@ -32,7 +32,8 @@
 //! so who finds none has seen all of them claimed, though it did not look at those below.
 //!
 //! **The table** has the words of channels too (`word_rules`): a forest stands on its second part, behind those words, so that its deeds
-//! and the entries of the channels have one order, where both are on one table. `Forest::new` makes a table without channels.
+//! and the entries of the channels have one order, where both are on one table. `Forest::new` makes a table without channels; `Forest::on`
+//! stands on one that a hub was made with, and its passes are made of seats that the hub's first pass gave out.
 //!
 //! **The history.** The entries of the model are among the *deeds*: one deed for each exchange, an entry (`Act`), or a claim
 //! or a store, which the model does not know. All words are a function of the deeds, up to the hints. A `JobPass` has seen a beginning

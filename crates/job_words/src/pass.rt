@@ -13,7 +13,7 @@ use word_rules::RunSeat;
 /// What a thread steps with on a forest: it alone acts under the tags of its callers. It has no bytes.
 #[derive(Drop)]
 pub struct JobPass {
-    pub(crate) seat: RunSeat,
+    pub seat: RunSeat,
     pub ghost shaped: { IsShape (shape_of (jobs_in seat.me.0).key) } by { Prim.hlevel props },
     pub ghost done: { IsDoneSeen (jobs_in seat.me.0) } by { DoneSeen-prop (jobs_in seat.me.0) },
     pub ghost legal: { IsLegalSeen (jobs_in seat.me.0) } by { LegalSeen-prop (jobs_in seat.me.0) },

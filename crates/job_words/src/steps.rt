@@ -1,6 +1,7 @@
 //! The three steps on a word of a forest.
 ghost use Rattle.std.specs.Prelude.{◌≡◌, ◌<◌};
 ghost use Rattle.worded.specs.Exchanges.{MayEnter, MayLift};
+ghost use Rattle.joined_words.specs.Seen.{view_of};
 ghost use Rattle.word_rules.specs.Deeds.{shape_of, doer, word_count, IsDone, Fits};
 ghost use Rattle.job_words.specs.Passes.{Sees, ExchangeAnswer};
 ghost use Rattle.job_words.specs.Forests.{seen_by, IsOwn};
@@ -41,7 +42,7 @@ pub(crate) fn exchange_word(
     requires own { IsOwn forest.now pass.old who }
     requires word { word < word_count forest.now.size }
     requires doer { doer deed.now ≡ who }
-    requires may { MayEnter (IsDone (shape_of forest.now.size)) (Fits forest.now.size) doer (seen_by pass.old) word old new deed.now }
+    requires may { MayEnter (IsDone (shape_of forest.now.size)) (Fits forest.now.size) doer (view_of (seen_by pass.old)) word old new deed.now }
     ensures own { IsOwn forest.now pass.new who }
     ensures told { ExchangeAnswer who deed.now word old (seen_by pass.old) (seen_by pass.new) result }
 {
@@ -61,7 +62,7 @@ pub(crate) fn exchange_word(
 pub(crate) fn lift_word(forest: &Forest, pass: &mut JobPass, who: Tag, word: usize, least: u64)
     requires own { IsOwn forest.now pass.old who }
     requires word { word < word_count forest.now.size }
-    requires may { MayLift (IsDone (shape_of forest.now.size)) (Fits forest.now.size) doer (seen_by pass.old) word least }
+    requires may { MayLift (IsDone (shape_of forest.now.size)) (Fits forest.now.size) doer (view_of (seen_by pass.old)) word least }
     ensures own { IsOwn forest.now pass.new who }
     ensures same { seen_by pass.new ≡ seen_by pass.old }
 {

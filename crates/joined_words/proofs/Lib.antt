@@ -1,3 +1,4 @@
+pub mod OrdersGoOn
 pub mod PartsOfLists
 pub mod PartsOfSteps
 pub mod PartsOfTables

@@ -26,5 +26,5 @@ pub use job_word::JobWord;
 pub use layout::{CellHistory, Layout};
 pub use link_word::LinkWord;
 pub use size::{ForestSize, JobHistory};
-pub use table::{RunEntry, RunHistory, RunKey, RunSeat, RunTable};
+pub use table::{RunEntry, RunHistory, RunKey, RunSeat, RunTable, SharedTable};
 pub use wait_word::{ResolvedBy, WaitWord};

@@ -1,11 +1,14 @@
 -- Seats that are split off, one by one.
-use Rattle.std.specs.Prelude.{◌≡◌, ℕ, zero, suc, ◌+◌, ◌==◌, Bool, true, false, List, [], ◌∷◌, ◌++◌, length, Option, Some, None, slice_get, if◌then◌else◌, refl}
-use Rattle.std.proofs.Common.{ap, sym, ◌∙◌, subst, arith, length-append}
+use Rattle.std.specs.Prelude.{◌≡◌, ℕ, zero, suc, ◌+◌, ◌/◌, ◌%◌, ◌==◌, ◌<◌, Bool, true, false, List, [], ◌∷◌, ◌++◌, length, Option, Some, None, slice_get, if◌then◌else◌, refl}
+use Rattle.std.proofs.Common.{ap, sym, ◌∙◌, subst, arith, length-append, ne_eqb}
+use Rattle.joined_words.proofs.PartsOfLists.{tag_place}
 use Rattle.std.proofs.lemmas.Bool.{eqb-true}
 use Rattle.channel_model.specs.Histories.{acts_of}
 use Rattle.channel_model.specs.Floors.{Floor as ChannelFloor}
 use Rattle.job_model.specs.Floors.{Floor}
 use Rattle.worded.specs.Views.{has_tag}
+use Rattle.joined_words.specs.Parts.{tag_in, tags_in}
+use Rattle.job_words.specs.Passes.{floor_seen}
 use Rattle.cell_words.specs.declared.hub.Hub.{Hub}
 use Rattle.cell_words.specs.declared.pass.Pass.{Pass}
 use Rattle.cell_words.specs.Hubs.{shape_of, seen_by as channels_seen_by, GivesTags}
@@ -14,7 +17,7 @@ use Rattle.job_words.specs.declared.forest.Forest.{Forest}
 use Rattle.job_words.specs.declared.pass.JobPass.{JobPass}
 use Rattle.job_words.specs.Meetings.{NothingOf}
 use Rattle.job_words.specs.Forests.{seen_by, GivesTags as GivesJobTags}
-use Rattle.word_seats.specs.Seats.{may_act, hub_anchor, hub_may_act, forest_anchor, forest_may_act, NobodyFrom, IsNewFloor, IsNewJobFloor, WhereSome, AreNewSeats, AreNewJobSeats}
+use Rattle.word_seats.specs.Seats.{may_act, hub_anchor, hub_may_act, may_act_beside, forest_anchor, forest_may_act, NobodyFrom, IsNewFloor, IsNewJobFloor, IsNewBeside, WhereSome, AreNewSeats, AreNewJobSeats}
 use Rattle.word_seats.proofs.Given.{ungiven}
 
 -- the one tag of a new seat
@@ -24,6 +27,11 @@ one_tag tag k = by_test (k == tag)
     by_test : (b : Bool) → (if b then true else false) ≡ b
     by_test true = refl
     by_test false = refl
+
+-- a tag of the one part is none of the other
+pub other_tag : (place other t : ℕ) (ts : List ℕ) → other < 2 → (other ≡ place → ⊥) → tags_in place (tag_in other t ∷ ts) ≡ tags_in place ts
+other_tag place other t ts lt ne = ap (λ (b : Bool). if b then tag_in other t / 2 ∷ tags_in place ts else tags_in place ts)
+    (ne_eqb (tag_in other t % 2) place (λ e. ne (sym (tag_place other t lt) ∙ e)))
 
 -- where nobody acts from a tag on, and that tag is given out, nobody acts above it
 pub nobody_more : (chief : Bool) (given : List ℕ) (tag : ℕ) → NobodyFrom tag (may_act chief given)
@@ -39,22 +47,42 @@ nobody_more chief given tag none k le =
 -- ---- one seat that is split off
 
 pub same_floor : (h : Hub) (old new : Pass) → (channels_seen_by new).seen ≡ (channels_seen_by old).seen
-    → (channels_seen_by new).tags ≡ (channels_seen_by old).tags → hub_floor h new ≡ hub_floor h old
-same_floor h old new seen tags i = record {
+    → (channels_seen_by new).tags ≡ (channels_seen_by old).tags → (channels_seen_by new).order ≡ (channels_seen_by old).order
+    → hub_floor h new ≡ hub_floor h old
+same_floor h old new seen tags order i = record {
   shape = shape_of h;
   seen = seen i;
   spare = 4294967296;
   alone = false;
-  callers =
-      λ t. has_tag t (tags i);
+  callers = λ t. has_tag t (tags i);
+  order = order i;
 }
 
 pub hub_gives : (h : Hub) (old new : Pass) (tag : ℕ) → hub_may_act (hub_anchor h old) tag ≡ false
-    → GivesTags (tag ∷ (channels_seen_by old).given) new → hub_anchor h new ≡
-    record (hub_anchor h old) { given = tag ∷ (hub_anchor h old).given }
-hub_gives h old new tag none gives =
+    → GivesTags (tag ∷ (channels_seen_by old).given) new
+    → (channels_seen_by new).given_all ≡ tag_in 0 tag ∷ (channels_seen_by old).given_all
+    → hub_anchor h new ≡
+    record (hub_anchor h old) { given = tag ∷ (hub_anchor h old).given; given_all = tag_in 0 tag ∷ (hub_anchor h old).given_all }
+hub_gives h old new tag none gives all =
     let chief = gives.0 ∙ sym (ungiven (channels_seen_by old).chief (channels_seen_by old).given tag none).0 in
-    λ i. record { hub = h; chief = chief i; given = gives.1 i }
+    λ i. record { hub = h; chief = chief i; given = gives.1 i; given_all = all i }
+
+-- the tag is one of the Jobs
+pub hub_gives_beside : (h : Hub) (old new : Pass) (tag : ℕ) → may_act_beside (hub_anchor h old) tag ≡ false
+    → GivesTags (channels_seen_by old).given new
+    → (channels_seen_by new).given_all ≡ tag_in 1 tag ∷ (channels_seen_by old).given_all
+    → hub_anchor h new ≡ record (hub_anchor h old) { given_all = tag_in 1 tag ∷ (hub_anchor h old).given_all }
+hub_gives_beside h old new tag none gives all =
+    let chief = gives.0 ∙ sym (ungiven (channels_seen_by old).chief (tags_in 1 (channels_seen_by old).given_all) tag none).0 in
+    λ i. record { hub = h; chief = chief i; given = gives.1 i; given_all = all i }
+
+pub new_beside : (new : JobPass) (tag : ℕ) → (seen_by new).tags ≡ tag ∷ [] → NothingOf tag (floor_seen (seen_by new))
+    → IsNewBeside tag (floor_seen (seen_by new))
+new_beside new tag tags none = record {
+  callers = λ k. ap (has_tag k) tags ∙ one_tag tag k;
+  none = none.acts;
+  unclaimed = none.rows;
+}
 
 pub new_floor : (h : Hub) (old new : Pass) (tag : ℕ) → (channels_seen_by new).tags ≡ tag ∷ []
     → (channels_seen_by new).seen ≡ (channels_seen_by old).seen → acts_of tag (channels_seen_by new).seen ≡ []

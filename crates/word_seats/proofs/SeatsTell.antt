@@ -19,7 +19,7 @@ use Rattle.word_seats.proofs.Given.{ungiven}
 pub met_on_channels : (h g : Hub) (a b a' b' : Pass) → MeetAnswer (seen_by a) (seen_by b) (seen_by a') → seen_by b' ≡ seen_by b
     → MetOnChannels (hub_floor h a) (hub_floor h a') (hub_floor g b) (hub_floor g b')
 met_on_channels h g a b a' b' m same = record {
-  same = record { shape = refl; alone = refl; callers = ap {B = ℕ → Bool} (λ (tags : List ℕ). λ t. has_tag t tags) m.tags };
+  same = record { shape = refl; alone = refl; callers = ap {B = ℕ → Bool} (λ (tags : List ℕ). λ t. has_tag t tags) m.tags; order = m.order };
   other = ap (λ (v : Seen). record {
     shape = shape_of g;
     seen = v.seen;
@@ -27,9 +27,11 @@ met_on_channels h g a b a' b' m same = record {
     alone = false;
     callers =
         λ t. has_tag t v.tags;
+    order = v.order;
   }) same;
   longer = m.goes_on;
   heard = m.told;
+  heard_order = m.told_order;
   mine = m.own;
 }
 
@@ -40,6 +42,8 @@ ended_on_channels h g a b a' m = record {
   callers = m.callers;
   longer = m.goes_on;
   heard = m.told;
+  order = m.order;
+  heard_order = m.told_order;
   mine = m.own;
   theirs = m.taken;
 }
@@ -57,6 +61,7 @@ met_on_jobs a b a' b' m same = record {
   other = ap floor_seen same;
   longer = m.goes_on.longer;
   heard = m.told.longer;
+  heard_order = m.told.order;
   mine = λ k own. (m.own k own).acts;
   kept = m.goes_on.claims;
   heard_claims = m.told.claims;
@@ -70,6 +75,9 @@ ended_on_jobs a b a' m = record {
   callers = m.callers;
   longer = m.goes_on.longer;
   heard = m.told.longer;
+  order = m.goes_on.order;
+  heard_order = m.told.order;
+  joint = m.joint;
   mine = λ k own. (m.own k own).acts;
   theirs = λ k own. (m.taken k own).acts;
   kept = m.goes_on.claims;

@@ -12,8 +12,8 @@ no_table = record { words = 0; slots = 0; views_name = 0; atom = 0; block = 0; o
 
 -- the hub has this table, which was made for this layout, and so many rows
 abbrev pub IsNamedHub : TableId → Layout × ForestSize → Hub → Type 0
-IsNamedHub table key hub = (hub.table.shared.table_id ≡ table) × (hub.table.shared.key ≡ key)
+IsNamedHub table key hub = (hub.table.value.shared.table_id ≡ table) × (hub.table.value.shared.key ≡ key)
 
 -- the forest has this table, which was made for this layout, and so many rows
 abbrev pub IsNamedForest : TableId → Layout × ForestSize → Forest → Type 0
-IsNamedForest table key forest = (forest.table.shared.table_id ≡ table) × (forest.table.shared.key ≡ key)
+IsNamedForest table key forest = (forest.table.value.shared.table_id ≡ table) × (forest.table.value.shared.key ≡ key)

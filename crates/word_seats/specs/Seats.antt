@@ -5,6 +5,7 @@ use Rattle.channel_model.specs.Floors.{Floor as ChannelFloor}
 use Rattle.job_model.specs.Histories.{acts_of as job_acts_of}
 use Rattle.job_model.specs.Floors.{Floor, is_claimed_by}
 use Rattle.worded.specs.Views.{has_tag}
+use Rattle.joined_words.specs.Parts.{tags_in}
 use Rattle.cell_words.specs.declared.hub.Hub.{Hub}
 use Rattle.cell_words.specs.declared.pass.Pass.{Pass}
 use Rattle.cell_words.specs.Hubs.{seen_by as channels_seen_by}
@@ -17,7 +18,13 @@ use Rattle.word_seats.specs.declared.forest_seat.ForestSeatAnchor.{ForestSeatAnc
 -- ---- what calls do not change
 
 abbrev pub hub_anchor : Hub → Pass → HubSeatAnchor
-hub_anchor hub pass = record { hub = hub; chief = (channels_seen_by pass).chief; given = (channels_seen_by pass).given }
+hub_anchor hub pass =
+    record {
+      hub = hub;
+      chief = (channels_seen_by pass).chief;
+      given = (channels_seen_by pass).given;
+      given_all = (channels_seen_by pass).given_all;
+    }
 
 abbrev pub forest_anchor : Forest → JobPass → ForestSeatAnchor
 forest_anchor forest pass = record { forest = forest; chief = (seen_by pass).chief; given = (seen_by pass).given }
@@ -30,6 +37,10 @@ may_act chief given tag = if chief then has_tag tag given else true
 
 abbrev pub hub_may_act : HubSeatAnchor → ℕ → Bool
 hub_may_act anchor = may_act anchor.chief anchor.given
+
+-- the same of calls on Jobs, by the tags that it has given out of the table's second part
+abbrev pub may_act_beside : HubSeatAnchor → ℕ → Bool
+may_act_beside anchor = may_act anchor.chief (tags_in 1 anchor.given_all)
 
 abbrev pub forest_may_act : ForestSeatAnchor → ℕ → Bool
 forest_may_act anchor = may_act anchor.chief anchor.given
@@ -52,6 +63,12 @@ pub record IsNewJobFloor (tag : ℕ) (main new : Floor) : Type 0 where
   pub shape : new.shape ≡ main.shape
   pub seen : new.seen ≡ main.seen
   pub claims : (r : ℕ) → new.claims r ≡ main.claims r
+  pub callers : (k : ℕ) → new.callers k ≡ (k == tag)
+  pub none : job_acts_of tag new.seen ≡ []
+  pub unclaimed : (r : ℕ) → r ≢ 0 → is_claimed_by tag (new.claims r) ≡ false
+
+-- the floor of Jobs of this tag alone, under which nobody acted
+pub record IsNewBeside (tag : ℕ) (new : Floor) : Type 0 where
   pub callers : (k : ℕ) → new.callers k ≡ (k == tag)
   pub none : job_acts_of tag new.seen ≡ []
   pub unclaimed : (r : ℕ) → r ≢ 0 → is_claimed_by tag (new.claims r) ≡ false

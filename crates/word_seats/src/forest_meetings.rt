@@ -6,12 +6,12 @@ ghost use Rattle.job_words.specs.Passes.{floor_seen};
 ghost use Rattle.word_seats.specs.Seats.{forest_anchor, forest_may_act, IsNewJobFloor};
 
 use crate::forest_seat::ForestSeat;
-use crate::names::ForestName;
+use crate::names::TableName;
 use co_base::Tag;
 use shared_floors::SharedJobs;
 use std::marker::PhantomData;
 
-impl<'a, N: ForestName> ForestSeat<'a, N> {
+impl<'a, N: TableName> ForestSeat<'a, N> {
     /// A seat of a tag under which nobody could act before. It has seen what this one has seen.
     pub fn split(&mut self, tag: Tag) -> ForestSeat<'a, N>
         requires { forest_may_act (forest_anchor self.old.forest.now self.old.pass) tag ≡ false }
@@ -29,7 +29,7 @@ impl<'a, N: ForestName> ForestSeat<'a, N> {
     }
 }
 
-impl<N: ForestName> SharedJobs for ForestSeat<'_, N> {
+impl<N: TableName> SharedJobs for ForestSeat<'_, N> {
     ghost use Rattle.word_seats.specs.Seats.{forest_may_act};
 
     ghost may_act = { forest_may_act };

@@ -3,7 +3,7 @@ ghost use Rattle.std.proofs.Props.{props};
 ghost use Rattle.job_words.specs.Forests.{IsOf};
 ghost use Rattle.word_seats.specs.Names.{IsNamedForest};
 
-use crate::names::ForestName;
+use crate::names::TableName;
 use co_base::{Memory, Row, Tag, Value};
 use job_model::{
     AttachError, Attached, CancelledNow, Ended, Finished, JobFloor, JobKind, JobView, Link, Reason,
@@ -20,17 +20,17 @@ pub struct ForestSeatAnchor {
     pub given: LinkedList<u64>,
 }
 
-/// A pass with the forest that `N` names: the floor of whoever keeps it.
+/// A pass with a forest on the table that `N` names: the floor of whoever keeps it.
 #[derive(Drop)]
-pub struct ForestSeat<'a, N: ForestName> {
+pub struct ForestSeat<'a, N: TableName> {
     pub forest: &'a Forest,
     pub pass: JobPass,
     pub name: PhantomData<N>,
     pub ghost of: { IsOf forest.now pass } by { Prim.hlevel props },
-    pub ghost named: { IsNamedForest N.forest_table N.forest_key forest.now } by { Prim.hlevel props },
+    pub ghost named: { IsNamedForest N.table N.table_key forest.now } by { Prim.hlevel props },
 }
 
-impl<N: ForestName> JobFloor for ForestSeat<'_, N> {
+impl<N: TableName> JobFloor for ForestSeat<'_, N> {
     ghost use Rattle.std.specs.Prelude.{◌≡◌, OnOk, OnErr, IsOk};
     ghost use Rattle.job_model.specs.Floors.{HasRoom};
     ghost use Rattle.job_words.specs.Forests.{seen_by};

@@ -3,7 +3,7 @@ ghost use Rattle.std.proofs.Props.{props};
 ghost use Rattle.cell_words.specs.Hubs.{IsOf};
 ghost use Rattle.word_seats.specs.Names.{IsNamedHub};
 
-use crate::names::HubName;
+use crate::names::TableName;
 use cell_calls::Desk;
 use cell_words::{Hub, Pass};
 use channel_model::{
@@ -20,19 +20,21 @@ pub struct HubSeatAnchor {
     /// Whether the pass gives out tags, and those that it has given out.
     pub chief: bool,
     pub given: LinkedList<u64>,
+    /// Those of both parts of the table that it has given out.
+    pub given_all: LinkedList<u64>,
 }
 
-/// A pass with the hub that `N` names: the floor of whoever keeps it.
+/// A pass with a hub on the table that `N` names: the floor of whoever keeps it.
 #[derive(Drop)]
-pub struct HubSeat<'a, N: HubName> {
+pub struct HubSeat<'a, N: TableName> {
     pub hub: &'a Hub,
     pub pass: Pass,
     pub name: PhantomData<N>,
     pub ghost of: { IsOf hub.now pass } by { Prim.hlevel props },
-    pub ghost named: { IsNamedHub N.hub_table N.hub_key hub.now } by { Prim.hlevel props },
+    pub ghost named: { IsNamedHub N.table N.table_key hub.now } by { Prim.hlevel props },
 }
 
-impl<N: HubName> ChannelFloor for HubSeat<'_, N> {
+impl<N: TableName> ChannelFloor for HubSeat<'_, N> {
     ghost use Rattle.std.specs.Prelude.{◌≡◌, OnOk, OnErr, IsOk};
     ghost use Rattle.channel_model.specs.Floors.{HasRoom};
     ghost use Rattle.cell_words.proofs.LooksAtCells.{hub_legal};

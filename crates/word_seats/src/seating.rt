@@ -8,11 +8,11 @@ ghost use Rattle.word_seats.specs.Seats.{hub_anchor, hub_may_act, forest_anchor,
 
 use crate::forest_seat::ForestSeat;
 use crate::hub_seat::HubSeat;
-use crate::names::{ForestName, HubName};
+use crate::names::TableName;
 use co_base::{Memory, Tag};
 use std::alloc::Global;
 
-impl<'a, N: HubName> HubSeat<'a, N> {
+impl<'a, N: TableName> HubSeat<'a, N> {
     /// A seat for each tag from 1 to before `count`, in their order.
     pub fn split_below(&mut self, alloc: Global, count: Tag) -> Result<Vec<HubSeat<'a, N>>, Memory>
         requires some { 1 ≤ count }
@@ -31,7 +31,7 @@ impl<'a, N: HubName> HubSeat<'a, N> {
     }
 }
 
-impl<'a, N: ForestName> ForestSeat<'a, N> {
+impl<'a, N: TableName> ForestSeat<'a, N> {
     /// A seat for each tag from 1 to before `count`, in their order.
     pub fn split_below(
         &mut self,

@@ -1,6 +1,8 @@
 use Rattle.std.proofs.Common.{ap, get_or, ◌∙◌}
+use Rattle.joined_words.specs.Seen.{view_of}
 use Rattle.job_words.specs.JobParts.{jobs_in}
-use Rattle.job_words.proofs.NewForests.{nothing_yet, no_entries, first_fits, took_both}
+use Rattle.word_rules.proofs.FirstRows.{nothing_yet}
+use Rattle.job_words.proofs.NewForests.{no_entries, first_fits, took_both}
 use Rattle.job_words.proofs.meeting.table_alone.Goals as goal
 
 pub new_joint-requires-clause-legal : goal.new_joint-requires-clause-legal
@@ -12,7 +14,8 @@ new_joint-requires-clause-second c i lt = first_fits c.as_slice.result.now
     c.args.size i
 
 pub returns-clause-first : goal.returns-clause-first
-returns-clause-first c = ap jobs_in (took_both _ _ _ (record { kinds = c.new-kinds.result }, c.args.size) c.in_ok-table.seat.me.0
+returns-clause-first c = ap (λ x. view_of (jobs_in x)) (took_both _ _ _ (record { kinds = c.new-kinds.result }, c.args.size)
+    c.in_ok-table.seat.me.0
     c.split_in-root.new.seat.me.0
     c.split_in-root.result.me.0 c.end_in.new.main.me.0 (ap (λ x. x.0) c.in_ok-table.ensures.seat.1) c.split_in-root.ensures.whole.0
     c.split_in-root.ensures.whole.1 c.end_in.ensures.whole)

@@ -3,24 +3,35 @@ use Rattle.worded.specs.Views.{has_tag}
 use Rattle.worded.specs.Exchanges.{MayLift}
 use Rattle.word_rules.specs.declared.size.ForestSize.{ForestSize}
 use Rattle.word_rules.specs.Deeds.{shape_of, doer, word_count, IsDone, Fits}
+use Rattle.joined_words.specs.Seen.{view_of}
 use Rattle.job_words.specs.JobParts.{jobs_in}
 use Rattle.job_words.specs.Forests.{seen_by}
-use Rattle.job_words.proofs.StepsOfATable.{TableSeen, PassLaws, stays_at}
+use Rattle.job_words.proofs.StepsOfATable.{wide_at, first_at, size_at, TableSeen, PassLaws, stays_at}
 use Rattle.job_words.proofs.steps.lift_word.Goals as goal
 
 pub lift_in-requires-clause-table : goal.lift_in-requires-clause-table
-lift_in-requires-clause-table c = (c.args.forest.now.placed.wide, c.args.forest.now.placed.few)
+lift_in-requires-clause-table c = wide_at c.args.forest.now (ap (λ x. x.shared.table_id) c.deref.ensures)
+    (ap (λ x. x.shared.key) c.deref.ensures)
+
+pub lift_in-requires-clause-seat : goal.lift_in-requires-clause-seat
+lift_in-requires-clause-seat c = (
+  c.requires.own.0.0.0 ∙ sym (ap (λ x. x.shared.table_id) c.deref.ensures),
+  c.requires.own.0.0.1
+      ∙ sym (ap (λ x. x.shared.key) c.deref.ensures),
+)
 
 pub lift_in-requires-clause-word : goal.lift_in-requires-clause-word
 lift_in-requires-clause-word c =
-    let f = c.args.forest.now in
-    (f.placed.begins, subst (λ (k : ForestSize). c.args.word < word_count k) (sym f.placed.same) c.requires.word)
+    let f = c.args.forest.now in (
+      first_at f (ap (λ x. x.shared.key) c.deref.ensures),
+      subst (λ (k : ForestSize). c.args.word < word_count k) (sym (size_at f (ap (λ x. x.shared.key) c.deref.ensures))) c.requires.word,
+    )
 
 pub lift_in-requires-clause-may : goal.lift_in-requires-clause-may
 lift_in-requires-clause-may c =
     let f = c.args.forest.now in
-    subst (λ (k : ForestSize). MayLift (IsDone (shape_of k)) (Fits k) doer (seen_by c.args.pass.now) c.args.word c.args.least)
-    (sym f.placed.same) c.requires.may
+    subst (λ (k : ForestSize). MayLift (IsDone (shape_of k)) (Fits k) doer (view_of (seen_by c.args.pass.now)) c.args.word c.args.least)
+    (sym (size_at f (ap (λ x. x.shared.key) c.deref.ensures))) c.requires.may
 
 pub invariant_of-pass : goal.invariant_of-pass
 invariant_of-pass c =
