@@ -5,7 +5,9 @@ use Rattle.std.proofs.Common.{sym, ap, ◌∙◌, subst, arith, true≢false}
 use Rattle.std.proofs.lemmas.List.Elements.{All-head, All-tail, All-cons}
 use mathlib.Core.Logic.{dite}
 use native.Mathlib.Decide.{ℕ_discrete, dec_le}
-use Rattle.channel_model.specs.Floors.{Floor as ChannelFloor}
+use Rattle.channel_model.specs.Floors.{Floor as ChannelFloor, Looked}
+use Rattle.channel_model.proofs.Spans.{prefix_then}
+use Rattle.co_base.proofs.Orders.{order_then}
 use Rattle.job_model.specs.Floors.{Floor}
 use Rattle.shared_floors.specs.Meetings.{EndedOnChannels, EndedOnJobs}
 use Rattle.worded.specs.Views.{has_tag}
@@ -17,6 +19,20 @@ use Rattle.run_laws.specs.Sights.{Sight, KnowsTags, CountUp}
 use Rattle.run_laws.specs.LastRounds.{tags_seen}
 use Rattle.run_laws.specs.Ends.{IsBroughtTo, NoOthers, IsSpare}
 use Rattle.engine_many.specs.Endings.{MayBothCall, AreWhole}
+
+-- who heard something before an end has heard it at the end
+pub ended_heard : (a h c b : ChannelFloor) {who : ℕ} → Looked who a h → ((k : ℕ) → a.callers k ≡ true → Looked k a h)
+    → EndedOnChannels h c b → EndedOnChannels a c b
+ended_heard a h c b here looked ended = record {
+  shape = ended.shape ∙ here.same.shape;
+  callers = λ k. ended.callers k ∙ ap (λ (f : ℕ → Bool). f k || b.callers k) here.same.callers;
+  longer = prefix_then a.seen h.seen c.seen here.longer ended.longer;
+  heard = ended.heard;
+  order = order_then a.order h.order c.order here.same.order ended.order;
+  heard_order = ended.heard_order;
+  mine = λ k own. ended.mine k (ap (λ (f : ℕ → Bool). f k) here.same.callers ∙ own) ∙ (looked k own).mine;
+  theirs = ended.theirs;
+}
 
 or_second : (a b : Bool) → b ≡ true → (a || b) ≡ true
 or_second true b e = refl

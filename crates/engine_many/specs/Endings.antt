@@ -8,7 +8,7 @@ use Rattle.script_grammar.specs.Programs.{Program}
 use Rattle.script_grammar.specs.Tags.{coroutine_count}
 use Rattle.script_meaning.specs.Shapes.{floor_shape, job_shape}
 use Rattle.poll_states.specs.Frames.{Frame}
-use Rattle.run_laws.specs.Ends.{IsBroughtTo, NoOthers, IsRunAtRest}
+use Rattle.run_laws.specs.Ends.{IsBroughtTo, NoOthers, IsRunInOneOrderIf, AreJoint}
 use Rattle.engine_many.specs.declared.ending.Left.{Left}
 use Rattle.engine_many.specs.Parts.{sight_of}
 
@@ -28,9 +28,9 @@ pub record AreWhole (p : Program) (c : ChannelFloor) (j : Floor) (may_call may_a
   pub others : (k : ℕ) → coroutine_count p < k → (may_call k ≡ false) × (may_act k ≡ false)
   pub none : NoOthers p c j
 
--- the books are those of a run of the script with the histories of these floors, which came to rest; the root has ended so, if it has; and
--- the floors are whole
+-- the books are those of a run of the script with the histories of these floors, which came to rest; the root has ended so, if it has; if
+-- all floors know one order of both histories, the run has one; and the floors are whole
 pub record IsLeftAtRest {B C J : Type 0} (items : B → List Item) (calls : C → ChannelFloor) (jobs : J → Floor) (may_call : C → ℕ → Bool)
-    (may_act : J → ℕ → Bool) (p : Program) (left : Left C J B) (end : Option End) : Type 0 where
-  pub rest : IsRunAtRest p (map items left.books.items) (calls left.channels).seen (jobs left.jobs).seen end
-  pub whole : AreWhole p (calls left.channels) (jobs left.jobs) (may_call left.channels) (may_act left.jobs)
+    (may_act : C → ℕ → Bool) (p : Program) (left : Left C J B) (end : Option End) : Type 0 where
+  pub rest : IsRunInOneOrderIf (AreJoint jobs) p (map items left.books.items) (calls left.channels).seen (jobs left.jobs).seen end
+  pub whole : AreWhole p (calls left.channels) (jobs left.jobs) (may_call left.channels) (may_act left.channels)

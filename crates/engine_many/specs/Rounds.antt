@@ -14,7 +14,7 @@ use Rattle.engine_many.specs.Endings.{IsLeftAtRest}
 use Rattle.poll_states.specs.Frames.{Frame}
 
 -- a run that is over came to rest; else all tasks are there
-abbrev pub RoundAnswer : {B C J : Type 0} → (B → List Item) → (C → ChannelFloor) → (J → Floor) → (C → ℕ → Bool) → (J → ℕ → Bool) → Program
+abbrev pub RoundAnswer : {B C J : Type 0} → (B → List Item) → (C → ChannelFloor) → (J → Floor) → (C → ℕ → Bool) → (C → ℕ → Bool) → Program
     → Round (Frame × C × J) C J B → Type 0
 RoundAnswer items calls jobs may_call may_act p (Over left end) = IsLeftAtRest items calls jobs may_call may_act p left end
 RoundAnswer items calls jobs may_call may_act p (GoesOn tasks c j) =

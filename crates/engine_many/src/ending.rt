@@ -14,8 +14,9 @@ use co_base::Memory;
 use engine_base::ScriptName;
 use job_model::JobFloor;
 use poll_states::Book;
-use shared_floors::{SharedChannels, SharedJobs};
+use shared_floors::SharedChannels;
 use std::alloc::Global;
+use word_seats::SharedBeside;
 
 /// What is left of all: the books in order of tags, and the floors of the root, which have seen all.
 #[derive(Drop)]
@@ -26,7 +27,12 @@ pub struct Left<C, J, B> {
 }
 
 /// Ends the floors of the others into those of the root, and those that were kept aside, whose tag did nothing.
-pub(crate) fn end_floors<N: ScriptName, C: SharedChannels + Drop, J: SharedJobs + Drop, B: Book>(
+pub(crate) fn end_floors<
+    N: ScriptName,
+    C: SharedChannels + Drop,
+    J: SharedBeside<C> + Drop,
+    B: Book,
+>(
     alloc: Global,
     root: Task<N, C, J, B>,
     others: Vec<Task<N, C, J, B>>,
@@ -38,7 +44,8 @@ pub(crate) fn end_floors<N: ScriptName, C: SharedChannels + Drop, J: SharedJobs 
     ensures root { IfOk result (λ left. IsBroughtInto C.view J.view N.program left root) }
     ensures others { IfOk result (λ left. All (λ x. IsBroughtInto C.view J.view N.program left x) others.items) }
     ensures aside { IfOk result (λ left. MayBothCall (C.view left.channels) (J.view left.jobs) (coroutine_count N.program)) }
-    ensures tags { IfOk result (λ left. KnowsTags N.program 0 (C.may_act (C.anchor left.channels)) (J.may_act (J.anchor left.jobs))) }
+    ensures tags { IfOk result (λ left. KnowsTags N.program 0 (C.may_act (C.anchor left.channels))
+        (J.may_act_beside (C.anchor left.channels))) }
     ensures none { IfOk result (λ left. NoOthers N.program (C.view left.channels) (J.view left.jobs)) }
 {
     let mut books = Vec::with_capacity(alloc, others.len())?;
@@ -50,8 +57,9 @@ pub(crate) fn end_floors<N: ScriptName, C: SharedChannels + Drop, J: SharedJobs 
         jobs.end(other_jobs);
         books.push(frame.into_book())?;
     }
-    channels.end(aside.0);
     jobs.end(aside.1);
+    jobs.learn(&mut channels);
+    channels.end(aside.0);
     Ok(Left {
         books,
         channels,

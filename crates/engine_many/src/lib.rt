@@ -9,6 +9,9 @@
 //! the tickets that the round put. So the end of a run does not rest on tickets: a wake that was lost for want of memory is made good
 //! there.
 //!
+//! **One order.** The two floors of a task hear each other in each poll, so its coroutine told its story up to a point of one order of both
+//! histories. The points of all are beginnings of one another, and the order of the run goes on from the longest.
+//!
 //! - `task`: a coroutine with the two floors of its own.
 //! - `starting`: tasks before their first poll.
 //! - `dealing`: the first tickets.

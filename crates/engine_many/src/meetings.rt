@@ -10,11 +10,12 @@ use crate::task::Task;
 use co_base::Memory;
 use engine_base::ScriptName;
 use poll_states::Book;
-use shared_floors::{SharedChannels, SharedJobs};
+use shared_floors::SharedChannels;
 use std::alloc::Global;
+use word_seats::SharedBeside;
 
 /// The root hears of all that each of the others has seen.
-pub(crate) fn hear_all<N: ScriptName, C: SharedChannels + Drop, J: SharedJobs + Drop, B: Book>(
+pub(crate) fn hear_all<N: ScriptName, C: SharedChannels + Drop, J: SharedBeside<C> + Drop, B: Book>(
     alloc: Global,
     root: &mut Task<N, C, J, B>,
     others: Vec<Task<N, C, J, B>>,
@@ -35,7 +36,7 @@ pub(crate) fn hear_all<N: ScriptName, C: SharedChannels + Drop, J: SharedJobs + 
 }
 
 /// Each of the others hears of all that the root has seen.
-pub(crate) fn tell_all<N: ScriptName, C: SharedChannels + Drop, J: SharedJobs + Drop, B: Book>(
+pub(crate) fn tell_all<N: ScriptName, C: SharedChannels + Drop, J: SharedBeside<C> + Drop, B: Book>(
     alloc: Global,
     root: &mut Task<N, C, J, B>,
     others: Vec<Task<N, C, J, B>>,
@@ -56,7 +57,7 @@ pub(crate) fn tell_all<N: ScriptName, C: SharedChannels + Drop, J: SharedJobs + 
 }
 
 /// All hear of all. The first of them is the root.
-pub(crate) fn meet_all<N: ScriptName, C: SharedChannels + Drop, J: SharedJobs + Drop, B: Book>(
+pub(crate) fn meet_all<N: ScriptName, C: SharedChannels + Drop, J: SharedBeside<C> + Drop, B: Book>(
     alloc: Global,
     tasks: Vec<Task<N, C, J, B>>,
 ) -> Result<Vec<Task<N, C, J, B>>, Memory>

@@ -10,15 +10,16 @@ use co_base::{Gate, Memory};
 use engine_base::ScriptName;
 use poll_states::Book;
 use script_reader::Script;
-use shared_floors::{SharedChannels, SharedJobs};
+use shared_floors::SharedChannels;
 use std::alloc::Global;
 use task_crew::Tickets;
+use word_seats::SharedBeside;
 
 /// Polls each of them once, in order. The answer says whether one of them did anything. Who is ready, and who was woken, gets a ticket.
 pub(crate) fn poll_all<
     N: ScriptName,
     C: SharedChannels + Drop,
-    J: SharedJobs + Drop,
+    J: SharedBeside<C> + Drop,
     B: Book,
     G: Gate,
 >(

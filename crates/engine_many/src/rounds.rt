@@ -21,9 +21,10 @@ use engine_base::ScriptName;
 use job_model::{End, JobFloor};
 use poll_states::Book;
 use script_reader::Script;
-use shared_floors::{SharedChannels, SharedJobs};
+use shared_floors::SharedChannels;
 use std::alloc::Global;
 use task_crew::Tickets;
+use word_seats::SharedBeside;
 
 /// What a last round came to.
 #[derive(Drop)]
@@ -35,7 +36,7 @@ pub(crate) enum Round<T, C, J, B> {
 }
 
 /// All have rested: ends their floors into those of the root.
-pub(crate) fn end_run<N: ScriptName, C: SharedChannels + Drop, J: SharedJobs + Drop, B: Book>(
+pub(crate) fn end_run<N: ScriptName, C: SharedChannels + Drop, J: SharedBeside<C> + Drop, B: Book>(
     alloc: Global,
     tasks: Vec<Task<N, C, J, B>>,
     aside: (C, J),
@@ -45,8 +46,8 @@ pub(crate) fn end_run<N: ScriptName, C: SharedChannels + Drop, J: SharedJobs + D
     requires tags { CountUp 0 (tags_of tasks.items) }
     requires rested { AllRested (sight_of C.view J.view) N.program tasks.items }
     requires aside { IsSpare N.program (C.view aside.0) (J.view aside.1) }
-    ensures { IfOk result (λ r. IsLeftAtRest B.items C.view J.view (λ c. C.may_act (C.anchor c)) (λ j. J.may_act (J.anchor j)) N.program r.0
-        r.1) }
+    ensures { IfOk result (λ r. IsLeftAtRest B.items C.view J.view (λ c. C.may_act (C.anchor c)) (λ c. J.may_act_beside (C.anchor c))
+        N.program r.0 r.1) }
 {
     let mut others = tasks;
     let mut root = others.remove(0);
@@ -60,7 +61,7 @@ pub(crate) fn end_run<N: ScriptName, C: SharedChannels + Drop, J: SharedJobs + D
 pub(crate) fn last_round<
     N: ScriptName,
     C: SharedChannels + Drop,
-    J: SharedJobs + Drop,
+    J: SharedBeside<C> + Drop,
     B: Book,
     G: Gate,
 >(
@@ -75,8 +76,8 @@ pub(crate) fn last_round<
     requires count { length tasks.items ≡ coroutine_count N.program }
     requires tags { CountUp 0 (tags_of tasks.items) }
     requires aside { IsSpare N.program (C.view aside.0) (J.view aside.1) }
-    ensures { IfOk result (λ round. RoundAnswer B.items C.view J.view (λ c. C.may_act (C.anchor c)) (λ j. J.may_act (J.anchor j)) N.program
-        round) }
+    ensures { IfOk result (λ round. RoundAnswer B.items C.view J.view (λ c. C.may_act (C.anchor c)) (λ c. J.may_act_beside (C.anchor c))
+        N.program round) }
 {
     let met = meet_all(alloc, tasks)?;
     let (polled, moved) = poll_all(alloc, script, met, tickets, gate)?;

@@ -19,18 +19,19 @@ use engine_base::ScriptName;
 use job_model::{End, JobFloor};
 use poll_states::Book;
 use script_reader::Script;
-use shared_floors::{SharedChannels, SharedJobs};
+use shared_floors::SharedChannels;
 use std::alloc::Global;
 use std::marker::PhantomData;
 use std::sync::Wait;
 use std::thread::Threads;
 use task_crew::{Tickets, no_tickets, run_crew};
+use word_seats::SharedBeside;
 
 /// The workers poll the coroutines of all tickets, until none is left. Gives back the tasks in order of their tags, and the lanes.
 fn run_tickets<
     N: ScriptName + Send + Sync,
     C: SharedChannels + Drop + Send,
-    J: SharedJobs + Drop + Send,
+    J: SharedBeside<C> + Drop + Send,
     B: Book + Send,
     R: Threads + Wait + Sync,
     G: Gate + Sync,
@@ -60,11 +61,11 @@ fn run_tickets<
 }
 
 /// Runs the tasks of a script until no coroutine can go on: what is left, and how the root has ended, if it has. It starts so many workers,
-/// but no more than there are coroutines, and two at least.
+/// but no more than there are coroutines, and two at least. If all floors of Jobs are joint, both histories have one order.
 pub fn run_tasks<
     N: ScriptName + Send + Sync,
     C: SharedChannels + Drop + Send,
-    J: SharedJobs + Drop + Send,
+    J: SharedBeside<C> + Drop + Send,
     B: Book + Send,
     R: Threads + Wait + Sync,
     G: Gate + Sync,
@@ -82,8 +83,8 @@ pub fn run_tasks<
     requires count { length tasks.items ≡ coroutine_count N.program }
     requires tags { CountUp 0 (tags_of tasks.items) }
     requires aside { IsSpare N.program (C.view aside.0) (J.view aside.1) }
-    ensures { IfOk result (λ r. IsLeftAtRest B.items C.view J.view (λ c. C.may_act (C.anchor c)) (λ j. J.may_act (J.anchor j)) N.program r.0
-        r.1) }
+    ensures { IfOk result (λ r. IsLeftAtRest B.items C.view J.view (λ c. C.may_act (C.anchor c)) (λ c. J.may_act_beside (C.anchor c))
+        N.program r.0 r.1) }
 {
     let count = script.coroutines();
     // More workers than coroutines would find nothing to do.

@@ -9,28 +9,30 @@ ghost use Rattle.engine_many.specs.Parts.{sight_of, TaskPolled};
 ghost use Rattle.run_laws.specs.Sights.{Keeps, KnowsTags, SawMore, IsSeenSame, IsWithin};
 ghost use Rattle.run_laws.specs.LastRounds.{Did};
 
+use call_meaning::JobsBeside;
 use channel_model::ChannelFloor;
 use co_base::{Gate, Memory, Tag};
 use engine_base::{ScriptName, end_of};
-use job_model::{End, JobFloor};
+use job_model::End;
 use poll_states::{Book, Floors, Frame, Turn, poll};
 use script_reader::Script;
-use shared_floors::{SharedChannels, SharedJobs};
+use shared_floors::SharedChannels;
 use std::marker::{Model, PhantomData};
 use task_berths::Tagged;
 use task_crew::{Apart, Tickets};
+use word_seats::SharedBeside;
 
 /// A coroutine of the run with the two floors that it alone calls. Contracts see it as these three. The frame lies in a box, since a task
 /// is moved into its berth and out of it around each few polls, and apart from other frames, since each poll writes to it.
 #[derive(Drop)]
-pub struct Task<N: ScriptName, C: SharedChannels + Drop, J: SharedJobs + Drop, B: Book> {
+pub struct Task<N: ScriptName, C: SharedChannels + Drop, J: SharedBeside<C> + Drop, B: Book> {
     frame: Box<Apart<Frame<B>>>,
     channels: C,
     jobs: J,
     name: PhantomData<N>,
 }
 
-impl<N: ScriptName, C: SharedChannels + Drop, J: SharedJobs + Drop, B: Book> Model
+impl<N: ScriptName, C: SharedChannels + Drop, J: SharedBeside<C> + Drop, B: Book> Model
     for Task<N, C, J, B> {
     ghost use Rattle.poll_states.specs.Frames.{Frame};
     ghost use Rattle.engine_many.specs.Parts.{sight_of};
@@ -41,10 +43,10 @@ impl<N: ScriptName, C: SharedChannels + Drop, J: SharedJobs + Drop, B: Book> Mod
     ghost view = { λ t. (t.frame.value.value, t.channels, t.jobs) };
 
     ghost invariant = { λ t. Keeps N.program (sight_of C.view J.view (t.frame.value.value, t.channels, t.jobs))
-        × KnowsTags N.program t.frame.value.value.tag (C.may_act (C.anchor t.channels)) (J.may_act (J.anchor t.jobs)) };
+        × KnowsTags N.program t.frame.value.value.tag (C.may_act (C.anchor t.channels)) (J.may_act_beside (C.anchor t.channels)) };
 }
 
-impl<N: ScriptName, C: SharedChannels + Drop, J: SharedJobs + Drop, B: Book> Tagged
+impl<N: ScriptName, C: SharedChannels + Drop, J: SharedBeside<C> + Drop, B: Book> Tagged
     for Task<N, C, J, B> {
     ghost tag_of = { λ t. t.0.tag };
 
@@ -54,7 +56,7 @@ impl<N: ScriptName, C: SharedChannels + Drop, J: SharedJobs + Drop, B: Book> Tag
 }
 
 /// A poll on floors of one's own.
-fn poll_on<B: Book, C: ChannelFloor, J: JobFloor, G: Gate>(
+fn poll_on<B: Book, C: ChannelFloor, J: JobsBeside<C>, G: Gate>(
     script: &Script,
     frame: &mut Frame<B>,
     channels: &mut C,
@@ -76,11 +78,11 @@ fn poll_on<B: Book, C: ChannelFloor, J: JobFloor, G: Gate>(
     poll(script, frame, &mut floors, gate)
 }
 
-impl<N: ScriptName, C: SharedChannels + Drop, J: SharedJobs + Drop, B: Book> Task<N, C, J, B> {
+impl<N: ScriptName, C: SharedChannels + Drop, J: SharedBeside<C> + Drop, B: Book> Task<N, C, J, B> {
     /// A coroutine that stands on these floors.
     pub(crate) fn new(frame: Box<Apart<Frame<B>>>, channels: C, jobs: J) -> Task<N, C, J, B>
         requires keeps { Keeps N.program (sight_of C.view J.view (frame.value.value, channels, jobs)) }
-        requires tags { KnowsTags N.program frame.value.value.tag (C.may_act (C.anchor channels)) (J.may_act (J.anchor jobs)) }
+        requires tags { KnowsTags N.program frame.value.value.tag (C.may_act (C.anchor channels)) (J.may_act_beside (C.anchor channels)) }
         ensures { result ≡ (frame.value.value, channels, jobs) }
     {
         Task {
@@ -178,7 +180,7 @@ impl<N: ScriptName, C: SharedChannels + Drop, J: SharedJobs + Drop, B: Book> Tas
     pub(crate) fn into_parts(self) -> (Frame<B>, C, J)
         ensures same { result ≡ self }
         ensures keeps { Keeps N.program (sight_of C.view J.view self) }
-        ensures tags { KnowsTags N.program self.0.tag (C.may_act (C.anchor self.1)) (J.may_act (J.anchor self.2)) }
+        ensures tags { KnowsTags N.program self.0.tag (C.may_act (C.anchor self.1)) (J.may_act_beside (C.anchor self.1)) }
     {
         let Task {
             frame,

@@ -8,9 +8,10 @@ use co_base::{Gate, Memory};
 use engine_base::ScriptName;
 use poll_states::{Book, Turn};
 use script_reader::Script;
-use shared_floors::{SharedChannels, SharedJobs};
+use shared_floors::SharedChannels;
 use std::marker::PhantomData;
 use task_crew::{Polls, Tickets};
+use word_seats::SharedBeside;
 
 /// How many polls of one coroutine come one after another while it is ready, before it goes back to its berth. So the way to it is paid
 /// once for several lines, and one that never waits keeps no worker for good.
@@ -20,7 +21,7 @@ const POLLS_IN_A_ROW: u32 = 64;
 fn poll_while_ready<
     N: ScriptName,
     C: SharedChannels + Drop,
-    J: SharedJobs + Drop,
+    J: SharedBeside<C> + Drop,
     B: Book,
     G: Gate,
 >(
@@ -54,7 +55,7 @@ pub(crate) struct RunsLines<'a, N, G> {
 impl<
     N: ScriptName + Sync,
     C: SharedChannels + Drop,
-    J: SharedJobs + Drop,
+    J: SharedBeside<C> + Drop,
     B: Book,
     G: Gate + Sync,
 > Polls<Task<N, C, J, B>> for RunsLines<'_, N, G> {

@@ -11,8 +11,9 @@ use Rattle.call_meaning.specs.Calls.{seen_by}
 use Rattle.script_grammar.specs.Programs.{Program}
 use Rattle.script_meaning.specs.Configs.{Config}
 use Rattle.script_meaning.specs.Polls.{Polled}
-use Rattle.run_laws.specs.Orders.{Side, RunsAlong}
-use Rattle.run_laws.proofs.OrderCounts.{sides_of, order_after}
+use Rattle.co_base.specs.Orders.{Side}
+use Rattle.run_laws.specs.Orders.{RunsAlong}
+use Rattle.call_meaning.proofs.OrderCounts.{sides_of, order_after}
 use Rattle.run_laws.proofs.AlongLater.{runs_along_later}
 use Rattle.run_laws.proofs.PolledAlong.{fresh_along, begun_order, begun_along, polled_order, polled_along}
 use Rattle.run_laws.proofs.Places.{slice_get-set_same, slice_get-set_other}

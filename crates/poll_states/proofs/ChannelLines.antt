@@ -44,6 +44,7 @@ use Rattle.poll_states.specs.Calls.{does_call, channel_in, element_of, answer_of
 use Rattle.poll_states.specs.Steps.{Stepped}
 use Rattle.script_meaning.specs.Laws.{wait_of}
 use Rattle.poll_states.proofs.Mild.{AllMild, plain_mild, try_mild, closes_mild, cancels_channel_mild}
+use Rattle.poll_states.specs.Heard.{HasHeardOf}
 use Rattle.poll_states.proofs.Stepping.{as_frame_on_channels, no_wait, mild_step, channels_noted}
 
 -- the channel of a line is declared
@@ -71,15 +72,16 @@ pub same_wait_stood : (c c' : ChannelFloor) (v w : WaitId) → HasStood c c' v �
 same_wait_stood c c' v w h e = let same : v ≡ w = cc in subst (HasStood c c') same h
 
 -- a call that leaves the coroutine here
-pub called : (p : Program) (c c' : ChannelFloor) (j : Floor) (f g : Frame) (i : Instruction) (told : List Told) (a : AnswerMeant)
+pub called : (p : Program) (c c' : ChannelFloor) (j j' : Floor) (f g : Frame) (i : Instruction) (told : List Told) (a : AnswerMeant)
     (y : Config)
-    → Legal j.shape j.seen → IsAt p f.tag (config_of f) i → LineCalls p f.tag (config_of f) i told a → After p f.tag (config_of f) i a y
+    → HasHeardOf f.tag c' j j' → Legal j'.shape j'.seen → IsAt p f.tag (config_of f) i → LineCalls p f.tag (config_of f) i told a
+    → After p f.tag (config_of f) i a y
     → ToldOnChannels (channels_at c f) (channels_at c' g) told
     → AllMild (base_of p) told → g.tag ≡ f.tag → config_of g ≡ y → ((w : WaitId) → wait_of y.stage ≡ Some w → HasStood c c' w)
-    → Stepped p (at_poll c j f) (at_poll c' j g)
-called p c c' j f g i told a y l at call after noted mild t config stood =
-    mild_step p c c' j j f g told y l (Move.calls (config_of f) y i told a at call after) (channels_noted c c' j f g told noted) mild t
-    config
+    → Stepped p (at_poll c j f) (at_poll c' j' g)
+called p c c' j j' f g i told a y hear l at call after noted mild t config stood =
+    mild_step p c c' j j' f g told y l (Move.calls (config_of f) y i told a at call after)
+    (channels_noted c c' j j' f g told hear noted) mild t config
     (λ w e. stood w (sym (ap (λ (x : Config). wait_of x.stage) config) ∙ e))
 
 pub no_more_wait : {A : Type 0} (w : WaitId) → None ≡ Some w → A
@@ -328,11 +330,12 @@ each_goes p k x n c c' (came.Closed v) ok at e h =
 each_goes p k x n c c' (came.Waits w) ok at e h = goes_waiting p k x _ c c' w h
 each_goes p k x n c c' came.NoPlace ok at e h = goes_spent p k x _ c c'
 
-pub has_called : (p : Program) (c : ChannelFloor) (j : Floor) (f : Frame) (b : SeenOnChannels) (g : Frame) (i : Instruction) (v : ℕ)
-    (a : Answer) → IsProgram p → Legal j.shape j.seen → IsAt p f.tag (config_of f) i → v ≡ element_of (config_of f) i
+pub has_called : (p : Program) (c : ChannelFloor) (j j' : Floor) (f : Frame) (b : SeenOnChannels) (g : Frame) (i : Instruction) (v : ℕ)
+    (a : Answer) → HasHeardOf f.tag b.floor j j' → IsProgram p → Legal j'.shape j'.seen → IsAt p f.tag (config_of f) i
+    → v ≡ element_of (config_of f) i
     → Made v i (channels_at c f) b a → b.who ≡ f.tag → g.tag ≡ f.tag → config_of g ≡ after_call p f.tag (config_of f) i a
-    → items_of g ≡ b.items → Stepped p (at_poll c j f) (at_poll b.floor j g)
-has_called p c j f b g i v a ok l at is made who t config items =
+    → items_of g ≡ b.items → Stepped p (at_poll c j f) (at_poll b.floor j' g)
+has_called p c j j' f b g i v a hear ok l at is made who t config items =
     by_call i at is (as_frame_on_channels (λ (z : SeenOnChannels). Made v i (channels_at c f) z a) c' b.who b.items g (who ∙ sym t) items
     made) config
   where
@@ -343,12 +346,12 @@ has_called p c j f b g i v a ok l at is made who t config items =
     x = config_of f
 
     by_call : (i : Instruction) → IsAt p f.tag x i → v ≡ element_of x i → Made v i (channels_at c f) (channels_at c' g) a
-        → config_of g ≡ after_call p f.tag x i a → Stepped p (at_poll c j f) (at_poll c' j g)
+        → config_of g ≡ after_call p f.tag x i a → Stepped p (at_poll c j f) (at_poll c' j' g)
     by_call (line.Send n o) at is m e =
         let plain : PlainCall (sends n (operand x o)) m.told (meant a) =
         subst (λ u. PlainCall (sends n u) m.told (meant a)) is m.goes.1 in
         let on = send_goes p f.tag x n o c c' a m.goes.0 m.stood in
-        called p c c' j f g (line.Send n o) m.told (meant a) (after_call p f.tag x (line.Send n o) a) l at
+        called p c c' j j' f g (line.Send n o) m.told (meant a) (after_call p f.tag x (line.Send n o) a) hear l at
         (LineCalls.send n o m.told (meant a) plain) on.0 m.left
         (plain_mild (base_of p) (sends n (operand x o)) m.told (meant a) (line_low p f.tag x (line.Send n o) n ok at refl) plain) t e
         on.1
@@ -356,33 +359,35 @@ has_called p c j f b g i v a ok l at is made who t config items =
         let tries : TryCall (sends n (operand x o)) m.told (meant a) =
         subst (λ u. TryCall (sends n u) m.told (meant a)) is m.goes.1 in
         let on = try_send_goes p f.tag x n o c c' a m.goes.0 m.stood in
-        called p c c' j f g (line.TrySend n o) m.told (meant a) (after_call p f.tag x (line.TrySend n o) a) l at
+        called p c c' j j' f g (line.TrySend n o) m.told (meant a) (after_call p f.tag x (line.TrySend n o) a) hear l at
         (LineCalls.trysend n o m.told (meant a) tries) on.0 m.left
         (try_mild (base_of p) (sends n (operand x o)) m.told (meant a) (line_low p f.tag x (line.TrySend n o) n ok at refl) tries) t e
         on.1
     by_call (line.Receive n) at is m e =
         let on = receive_goes p f.tag x n c c' a m.goes.0 m.stood in
-        called p c c' j f g (line.Receive n) m.told (meant a) (after_call p f.tag x (line.Receive n) a) l at
+        called p c c' j j' f g (line.Receive n) m.told (meant a) (after_call p f.tag x (line.Receive n) a) hear l at
         (LineCalls.receive n m.told (meant a) m.goes.1) on.0 m.left
         (plain_mild (base_of p) (receives n) m.told (meant a) (line_low p f.tag x (line.Receive n) n ok at refl) m.goes.1) t e on.1
     by_call (line.TryReceive n) at is m e =
         let on = try_receive_goes p f.tag x n c c' a m.goes.0 m.stood in
-        called p c c' j f g (line.TryReceive n) m.told (meant a) (after_call p f.tag x (line.TryReceive n) a) l at
+        called p c c' j j' f g (line.TryReceive n) m.told (meant a) (after_call p f.tag x (line.TryReceive n) a) hear l at
         (LineCalls.tryreceive n m.told (meant a) m.goes.1) on.0 m.left
         (try_mild (base_of p) (receives n) m.told (meant a) (line_low p f.tag x (line.TryReceive n) n ok at refl) m.goes.1) t e on.1
     by_call (line.Each n) at is m e =
         let on = each_goes p f.tag x n c c' a ok at m.goes.0 m.stood in
-        called p c c' j f g (line.Each n) m.told (meant a) (after_call p f.tag x (line.Each n) a) l at
+        called p c c' j j' f g (line.Each n) m.told (meant a) (after_call p f.tag x (line.Each n) a) hear l at
         (LineCalls.each n m.told (meant a) m.goes.1) on.0 m.left
         (plain_mild (base_of p) (receives n) m.told (meant a) (line_low p f.tag x (line.Each n) n ok at refl) m.goes.1) t e on.1
     by_call (line.Close n) at is m e =
         let goes : config_of g ≡ next x = e ∙ ap (after_call p f.tag x (line.Close n)) m.goes.0 in
-        mild_step p c c' j j f g m.told (next x) l (Move.closes x n m.told at m.goes.1) (channels_noted c c' j f g m.told m.left)
+        mild_step p c c' j j' f g m.told (next x) l (Move.closes x n m.told at m.goes.1)
+        (channels_noted c c' j j' f g m.told hear m.left)
         (closes_mild (base_of p) n 0 m.told (line_low p f.tag x (line.Close n) n ok at refl) m.goes.1) t goes
         (λ w q. no_wait g _ w goes refl q)
     by_call (line.CancelChannel n) at is m e =
         let goes : config_of g ≡ next x = e ∙ ap (after_call p f.tag x (line.CancelChannel n)) m.goes.0 in
-        mild_step p c c' j j f g m.told (next x) l (Move.cancels_channel x n m.told at m.goes.1) (channels_noted c c' j f g m.told m.left)
+        mild_step p c c' j j' f g m.told (next x) l (Move.cancels_channel x n m.told at m.goes.1)
+        (channels_noted c c' j j' f g m.told hear m.left)
         (cancels_channel_mild (base_of p) n m.told (line_low p f.tag x (line.CancelChannel n) n ok at refl) m.goes.1) t goes
         (λ w q. no_wait g _ w goes refl q)
     by_call other at is m e = absurd m.goes

@@ -25,7 +25,8 @@ use Rattle.call_meaning.specs.Telling.{Told, on_jobs, on_channels, IsResolved, M
 use Rattle.call_meaning.specs.ChannelCalls.{Answer, GivesUp}
 use Rattle.call_meaning.specs.Seen.{SeenOnChannels, SeenOnBoth, state_in}
 use Rattle.call_meaning.specs.Calls.{ToldOnChannels, ToldOnBoth, rows_in}
-use Rattle.call_meaning.proofs.JobTellings.{told_nothing, told_fact, told_knew, both_jobs, both_channels, both_then}
+use Rattle.call_meaning.proofs.JobTellings.{told_fact, told_knew, both_jobs, both_channels, both_then}
+use Rattle.call_meaning.proofs.HeardCalls.{both_nothing}
 use Rattle.channel_calls.specs.Calls.{IsUntouched, ToldPart, Tells, TakesBack, TakesBackSomehow, end_told}
 use Rattle.channel_calls.proofs.AnswersGo.{takes_back_goes}
 use Rattle.channel_calls.proofs.Untold.{told_seen, part_none, part_of}
@@ -50,9 +51,11 @@ use Rattle.script_meaning.specs.Lines.{Resumed}
 use Rattle.script_meaning.specs.Moves.{Move}
 use Rattle.poll_states.specs.declared.jobs.OwnState.TheVariants as own
 use Rattle.poll_states.specs.Frames.{Frame, config_of, items_of, Stands, seen_at, channels_at, SeenAtPoll, at_poll, both_of}
-use Rattle.poll_states.specs.Steps.{OwnStateSeen, EndedWait, GaveUp, Stepped, CutShort}
+use Rattle.poll_states.specs.Steps.{SeenBoth, EndedWait, GaveUp, Stepped, CutShort}
+use Rattle.poll_states.specs.Heard.{HasHeardOf}
+use Rattle.poll_states.proofs.BothSeen.{channels_since, state_since}
 use Rattle.poll_states.proofs.Mild.{gives_up_mild, saw_mild, resumed_mild, taken_back_mild}
-use Rattle.poll_states.proofs.Stepping.{told_on_channels_at, mild_step, no_wait, self_jobs, self_channels}
+use Rattle.poll_states.proofs.Stepping.{told_on_channels_at, mild_step, no_wait}
 
 -- ---- the look at a wait
 
@@ -166,32 +169,35 @@ ready_resolved who None h = h
 ready_resolved who (Some x) h = h.1
 
 -- what was told of it on both floors: the look at the wait, the look at the Job, and the rest
-ended_noted : (c d c' : ChannelFloor) (a b : Floor) (f m g : Frame) (w : WaitId) (row : ℕ) (told : List Told) → LookedAtChannels f.tag c d
-    → IsReady f.tag w d → OwnStateSeen f.tag row a b own.MayRun → m.tag ≡ f.tag → items_of m ≡ items_of f
-    → ToldOnChannels (channels_at d m) (channels_at c' g) told
-    → ToldOnBoth [] (seen_at c a f) (seen_at c' b g) (on_channels (IsResolved w) ∷ on_jobs (MayRun row) ∷ told)
-ended_noted c d c' a b f m g w row told look ready s t e h =
+ended_noted : (c d' c' : ChannelFloor) (a b b' : Floor) (f m g : Frame) (w : WaitId) (row : ℕ) (told : List Told)
+    → SeenBoth f.tag w row c d' a b true own.MayRun → m.tag ≡ f.tag → items_of m ≡ items_of f
+    → ToldOnChannels (channels_at d' m) (channels_at c' g) told → HasHeardOf m.tag c' b b'
+    → ToldOnBoth [] (seen_at c a f) (seen_at c' b' g) (on_channels (IsResolved w) ∷ on_jobs (MayRun row) ∷ told)
+ended_noted c d' c' a b b' f m g w row told s t e h last =
+    let d : ChannelFloor = s.channels in
+    let a' : Floor = s.jobs in
     let was : AtChannelStep c d (λ s. IsResolvedWait (s.waits w)) = record {
       moment = d.seen;
-      after = look.longer;
+      after = s.wait.looked.longer;
       before = spans.prefix_self d.seen;
-      holds = ready_resolved f.tag ((replay d.seen).waits w) ready;
+      holds = ready_resolved f.tag ((replay d.seen).waits w) s.wait.so;
     } in
-    let first : ToldOnBoth [] (seen_at c a f) (seen_at d a f) (on_channels (IsResolved w) ∷ []) =
-    both_channels (self_jobs f.tag a) (told_seen (IsResolved w) look was refl refl) in
-    let second : ToldOnBoth [] (seen_at d a f) (seen_at d b m) (on_jobs (MayRun row) ∷ []) =
-    both_jobs (self_channels f.tag d) (told_fact (MayRun row) t e (added_looked f.tag [] a b s.looked)
-    (looked_moment f.tag [] a b _ s.looked s.was)) in
-    let third : ToldOnBoth [] (seen_at d b m) (seen_at c' b g) told = both_channels (self_jobs m.tag b) h in
+    let first : ToldOnBoth [] (seen_at c a f) (seen_at d a' f) (on_channels (IsResolved w) ∷ []) =
+    both_channels (added_looked f.tag [] a a' s.heard.looked) s.heard.heard (told_seen (IsResolved w) s.wait.looked was refl refl) in
+    let second : ToldOnBoth [] (seen_at d a' f) (seen_at d' b m) (on_jobs (MayRun row) ∷ []) =
+    both_jobs (spans.added_looked f.tag d d' s.told.looked) s.told.told (told_fact (MayRun row) t e
+    (added_looked f.tag [] a' b s.job.looked) (looked_moment f.tag [] a' b _ s.job.looked s.job.was)) in
+    let third : ToldOnBoth [] (seen_at d' b m) (seen_at c' b' g) told =
+    both_channels (added_looked m.tag [] b b' last.looked) last.heard h in
     both_then first (both_then second third)
 
-taken_noted : (c d c' : ChannelFloor) (a b : Floor) (f m g : Frame) (told : List Told) → LookedAtChannels f.tag c d → Looked f.tag [] a b
-    → m.tag ≡ f.tag → items_of m ≡ items_of f → ToldOnChannels (channels_at d m) (channels_at c' g) told
-    → ToldOnBoth [] (seen_at c a f) (seen_at c' b g) told
-taken_noted c d c' a b f m g told look s t e h =
-    let first : ToldOnBoth [] (seen_at c a f) (seen_at d b m) [] =
-    both_jobs (spans.added_looked f.tag c d look) (told_nothing t e (added_looked f.tag [] a b s)) in
-    let second : ToldOnBoth [] (seen_at d b m) (seen_at c' b g) told = both_channels (self_jobs m.tag b) h in
+taken_noted : (c d' c' : ChannelFloor) (a b b' : Floor) (f m g : Frame) (told : List Told) → LookedAtChannels f.tag c d'
+    → Added f.tag [] [] a b → m.tag ≡ f.tag → items_of m ≡ items_of f → ToldOnChannels (channels_at d' m) (channels_at c' g) told
+    → HasHeardOf m.tag c' b b' → ToldOnBoth [] (seen_at c a f) (seen_at c' b' g) told
+taken_noted c d' c' a b b' f m g told look s t e h last =
+    let first : ToldOnBoth [] (seen_at c a f) (seen_at d' b m) [] = both_nothing (spans.added_looked f.tag c d' look) s t e in
+    let second : ToldOnBoth [] (seen_at d' b m) (seen_at c' b' g) told =
+    both_channels (added_looked m.tag [] b b' last.looked) last.heard h in
     both_then first second
 
 -- an answer is told by the end of the wait alone
@@ -208,13 +214,13 @@ ends_open p k x i _ o (WaitEnds.answered outcome a r after) =
 ends_open p k x i _ o WaitEnds.taken_back = refl
 
 -- the wait ended as its line says, and the body did not end by it
-pub wait_ended : (p : Program) {c d c' : ChannelFloor} {a b : Floor} {f m g : Frame} {w : WaitId} → IsProgram p
-    → LegalChannels d.shape d.seen → Legal b.shape b.seen → Stands p c a f → f.stage ≡ Waiting w → LookedAtChannels f.tag c d
-    → IsReady f.tag w d → OwnStateSeen f.tag (innermost f.tag (config_of f)) a b own.MayRun
-    → m.tag ≡ f.tag → config_of m ≡ config_of f → items_of m ≡ items_of f → EndedWait p w (channels_at d m) (channels_at c' g) m g
-    → g.tag ≡ m.tag → Stepped p (at_poll c a f) (at_poll c' b g) × (is_over g.stage ≡ false)
+pub wait_ended : (p : Program) {c d' c' : ChannelFloor} {a b b' : Floor} {f m g : Frame} {w : WaitId} → IsProgram p
+    → LegalChannels d'.shape d'.seen → Legal b'.shape b'.seen → Stands p c a f → f.stage ≡ Waiting w
+    → SeenBoth f.tag w (innermost f.tag (config_of f)) c d' a b true own.MayRun → m.tag ≡ f.tag → config_of m ≡ config_of f
+    → items_of m ≡ items_of f → EndedWait p w (channels_at d' m) (channels_at c' g) m g
+    → g.tag ≡ m.tag → HasHeardOf m.tag c' b b' → Stepped p (at_poll c a f) (at_poll c' b' g) × (is_over g.stage ≡ false)
 unfolding items_in rows_in
-wait_ended p {c} {d} {c'} {a} {b} {f} {m} {g} {w} ok l lj h e look ready s tag config items end t =
+wait_ended p {c} {d'} {c'} {a} {b} {b'} {f} {m} {g} {w} ok l lj h e s tag config items end t last =
     (by_end ends refl, ap (λ (x : Config). is_over x.stage) goes ∙ ends_open p f.tag x end.line end.outcome (ap is_over e) ends)
   where
     x : Config
@@ -223,13 +229,16 @@ wait_ended p {c} {d} {c'} {a} {b} {f} {m} {g} {w} ok l lj h e look ready s tag c
     row : ℕ
     row = innermost f.tag (config_of f)
 
+    looks : LookedAtChannels f.tag c d'
+    looks = channels_since s
+
     at : LineIs p f.tag x end.line
     at = subst (λ k. LineIs p k x end.line) tag (subst (λ y. LineIs p m.tag y end.line) config end.line_is)
 
     ends : WaitEnds p f.tag x end.line end.outcome
     ends =
-        wait_ends p f.tag h.on.runs.told x w end.line d.seen end.outcome h.on.runs.reaches e at (λ opens. closed opens)
-        (subst (λ sh. LegalChannels sh d.seen) (look.same.shape ∙ h.on.channels) l) (look.mine ∙ h.on.channel_acts
+        wait_ends p f.tag h.on.runs.told x w end.line d'.seen end.outcome h.on.runs.reaches e at (λ opens. closed opens)
+        (subst (λ sh. LegalChannels sh d'.seen) (looks.same.shape ∙ h.on.channels) l) (looks.mine ∙ h.on.channel_acts
         ∙ ap channel_acts_in (sym h.on.runs.written)) end.ends
       where
         closed : opens_lines end.line ≡ true → is_some (closing_of (code_of p f.tag) x.line) ≡ true
@@ -239,50 +248,56 @@ wait_ended p {c} {d} {c'} {a} {b} {f} {m} {g} {w} ok l lj h e look ready s tag c
     goes = subst (λ k. config_of g ≡ after_wait p k x end.line end.outcome) tag
         (subst (λ y. config_of g ≡ after_wait p m.tag y end.line end.outcome) config end.config)
 
-    noted : (outcome : Settled) → end.outcome ≡ outcome → ToldOnChannels (channels_at d m) (channels_at c' g) (end_told w false outcome)
-    noted outcome k = subst (λ o. ToldOnChannels (channels_at d m) (channels_at c' g) (end_told w false o)) k end.noted
+    noted : (outcome : Settled) → end.outcome ≡ outcome → ToldOnChannels (channels_at d' m) (channels_at c' g) (end_told w false outcome)
+    noted outcome k = subst (λ o. ToldOnChannels (channels_at d' m) (channels_at c' g) (end_told w false o)) k end.noted
 
     none : (v : WaitId) → wait_of g.stage ≡ Some v → HasStood c c' v
     none v q = no_wait g _ v goes (after_wait_none p f.tag x end.line end.outcome ends) q
 
     by_end : {outcome : Settled} → WaitEnds p f.tag x end.line outcome → end.outcome ≡ outcome
-        → Stepped p (at_poll c a f) (at_poll c' b g)
+        → Stepped p (at_poll c a f) (at_poll c' b' g)
     by_end (WaitEnds.answered outcome answer r after) k =
-        mild_step p c c' a b f g (on_channels (IsResolved w) ∷ on_jobs (MayRun row) ∷ made (Settle w outcome) ∷ [])
+        mild_step p c c' a b' f g (on_channels (IsResolved w) ∷ on_jobs (MayRun row) ∷ made (Settle w outcome) ∷ [])
         (after_wait p f.tag x end.line outcome) lj
         (Move.resumes x _ w end.line outcome answer e at r after)
-        (ended_noted c d c' a b f m g w row _ look ready s tag items
-        (subst (ToldOnChannels (channels_at d m) (channels_at c' g)) (answer_told w outcome answer r) (noted outcome k)))
+        (ended_noted c d' c' a b b' f m g w row _ s tag items
+        (subst (ToldOnChannels (channels_at d' m) (channels_at c' g)) (answer_told w outcome answer r) (noted outcome k)) last)
         (resumed_mild (base_of p) w outcome (IsResolved w) (MayRun row)) (t ∙ tag) (goes ∙ ap (after_wait p f.tag x end.line) k) none
     by_end WaitEnds.taken_back k =
-        mild_step p c c' a b f g (on_channels (TakenBack w) ∷ made (Settle w settled.Cancelled) ∷ []) (at_stage (Unwinding None) x) lj
+        mild_step p c c' a b' f g (on_channels (TakenBack w) ∷ made (Settle w settled.Cancelled) ∷ []) (at_stage (Unwinding None) x) lj
         (Move.cancelled x w e)
-        (taken_noted c d c' a b f m g _ look s.looked tag items (noted settled.Cancelled k))
+        (taken_noted c d' c' a b b' f m g _ looks (added_looked f.tag [] a b (state_since s).looked) tag items (noted settled.Cancelled k)
+        last)
         (taken_back_mild (base_of p) w settled.Cancelled) (t ∙ tag)
         (goes ∙ ap (after_wait p f.tag x end.line) k) none
 
 -- the wait was given up
-pub gave_up : (p : Program) (x y : SeenAtPoll) (d : ChannelFloor) (m : Frame) (w : WaitId) (row : ℕ) → Legal y.jobs.shape y.jobs.seen
-    → x.frame.stage ≡ Waiting w → row ≡ innermost x.frame.tag (config_of x.frame) → LookedAtChannels x.frame.tag x.channels d
-    → OwnStateSeen x.frame.tag row x.jobs y.jobs own.Cancelling → m.tag ≡ x.frame.tag → config_of m ≡ config_of x.frame
-    → items_of m ≡ items_of x.frame → GaveUp w row (channels_at d m) (channels_at y.channels y.frame) → y.frame.tag ≡ m.tag
-    → config_of y.frame ≡ at_stage (Unwinding None) (config_of m) → Stepped p x y
+pub gave_up : {resolved : Bool} (p : Program) (x y : SeenAtPoll) (d' : ChannelFloor) (b : Floor) (m : Frame) (w : WaitId) (row : ℕ)
+    → Legal y.jobs.shape y.jobs.seen
+    → x.frame.stage ≡ Waiting w → row ≡ innermost x.frame.tag (config_of x.frame)
+    → SeenBoth x.frame.tag w row x.channels d' x.jobs b resolved own.Cancelling → m.tag ≡ x.frame.tag → config_of m ≡ config_of x.frame
+    → items_of m ≡ items_of x.frame → GaveUp w row (channels_at d' m) (channels_at y.channels y.frame) → y.frame.tag ≡ m.tag
+    → config_of y.frame ≡ at_stage (Unwinding None) (config_of m) → HasHeardOf m.tag y.channels b y.jobs → Stepped p x y
 unfolding items_in rows_in
-gave_up p x y d m w row lj e is look s tag config items up t goes =
+gave_up p x y d' b m w row lj e is s tag config items up t goes last =
     let f : Frame = x.frame in
     let g : Frame = y.frame in
     let mid : List Item = items_of f ++ item.Job (known.Saw row) ∷ [] in
     let same : items_of m ++ item.Job (known.Saw row) ∷ [] ≡ mid = ap (λ l. l ++ item.Job (known.Saw row) ∷ []) items in
-    let noted : ToldOnChannels (record { who = m.tag; floor = d; items = mid }) (channels_at y.channels g) up.told =
-    subst (λ (l : List Item). ToldOnChannels (record { who = m.tag; floor = d; items = l }) (channels_at y.channels g) up.told) same
+    let noted : ToldOnChannels (record { who = m.tag; floor = d'; items = mid }) (channels_at y.channels g) up.told =
+    subst (λ (l : List Item). ToldOnChannels (record { who = m.tag; floor = d'; items = l }) (channels_at y.channels g) up.told) same
     up.noted in
-    let first : ToldOnBoth [] (both_of x) (record { who = m.tag; channels = d; jobs = y.jobs; items = mid }) (saw row ∷ []) =
-    both_jobs (spans.added_looked f.tag x.channels d look)
-    (told_knew (known.Saw row) refl tag refl (added_looked f.tag [] x.jobs y.jobs s.looked)
-    (looked_moment f.tag [] x.jobs y.jobs _ s.looked s.was)) in
-    let second : ToldOnBoth [] (record { who = m.tag; channels = d; jobs = y.jobs; items = mid }) (both_of y) up.told =
-    both_channels (self_jobs m.tag y.jobs) noted in
-    let both : ToldOnBoth [] (both_of x) (both_of y) (saw row ∷ up.told) = both_then first second in
+    let seen : SeenOnBoth = record { who = m.tag; channels = d'; jobs = b; items = mid } in
+    let before : ToldOnBoth [] (both_of x) (seen_at s.channels s.jobs f) [] =
+    both_nothing (spans.added_looked f.tag x.channels s.channels s.wait.looked)
+    (added_looked f.tag [] x.jobs s.jobs s.heard.looked) refl refl in
+    let first : ToldOnBoth [] (seen_at s.channels s.jobs f) seen (saw row ∷ []) =
+    both_jobs (spans.added_looked f.tag s.channels d' s.told.looked) s.told.told
+    (told_knew (known.Saw row) refl tag refl (added_looked f.tag [] s.jobs b s.job.looked)
+    (looked_moment f.tag [] s.jobs b _ s.job.looked s.job.was)) in
+    let second : ToldOnBoth [] seen (both_of y) up.told =
+    both_channels (added_looked m.tag [] b y.jobs last.looked) last.heard noted in
+    let both : ToldOnBoth [] (both_of x) (both_of y) (saw row ∷ up.told) = both_then before (both_then first second) in
     let config' : config_of g ≡ at_stage (Unwinding None) (config_of f) = goes ∙ ap (at_stage (Unwinding None)) config in
     mild_step p x.channels y.channels x.jobs y.jobs f g (saw row ∷ up.told) (at_stage (Unwinding None) (config_of f)) lj
     (subst (λ r. Move p f.tag (config_of f) (saw r ∷ up.told) (at_stage (Unwinding None) (config_of f))) (sym is)

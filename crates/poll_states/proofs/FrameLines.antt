@@ -5,11 +5,10 @@ use Rattle.channel_model.specs.Floors.{Floor as ChannelFloor}
 use Rattle.job_model.specs.declared.acts.JobNote.TheVariants as known
 use Rattle.job_model.specs.Histories.{Legal}
 use Rattle.job_model.specs.Floors.{Floor}
-use Rattle.job_model.proofs.Spans.{prefix_self, nothing_more}
 use Rattle.note_book.specs.declared.book.Item.TheVariants as item
 use Rattle.call_meaning.specs.Telling.{items_in, knew}
-use Rattle.call_meaning.specs.Calls.{ToldOnJobs, rows_in}
-use Rattle.call_meaning.proofs.JobTellings.{told_nothing, told_knew}
+use Rattle.call_meaning.specs.Calls.{rows_in}
+use Rattle.call_meaning.proofs.HeardCalls.{both_nothing}
 use Rattle.script_grammar.specs.declared.instructions.Operand.{Operand}
 use Rattle.script_grammar.specs.declared.instructions.Instruction.TheVariants as line
 use Rattle.script_grammar.specs.Programs.{Program}
@@ -19,14 +18,11 @@ use Rattle.script_meaning.specs.Shapes.{base_of}
 use Rattle.script_meaning.specs.Configs.{Config, Entered, IsAt, in_repeat, in_each, into, with_entered, at_line, at_stage, next, with_result, operand}
 use Rattle.script_meaning.specs.Moves.{Move}
 use Rattle.script_meaning.proofs.LinesPlaced.{repeat_turns}
-use Rattle.poll_states.specs.Frames.{Frame, config_of, items_of, LeavesTop, ChangesTop, jobs_at, at_poll}
+use Rattle.poll_states.specs.Frames.{Frame, config_of, items_of, LeavesTop, ChangesTop, at_poll}
 use Rattle.poll_states.specs.Steps.{Stepped}
 use Rattle.script_meaning.specs.Laws.{wait_of}
 use Rattle.poll_states.proofs.Mild.{fail_mild, nothing_mild}
-use Rattle.poll_states.proofs.Stepping.{self_jobs, no_wait, mild_step, jobs_noted}
-
-still_told : (j : Floor) (f g : Frame) → g.tag ≡ f.tag → items_of g ≡ items_of f → ToldOnJobs [] (jobs_at j f) (jobs_at j g) []
-still_told j f g t e = told_nothing t e (self_jobs f.tag j)
+use Rattle.poll_states.proofs.Stepping.{self_jobs, self_channels, both_failed, no_wait, mild_step}
 
 pub result_set : (p : Program) (c : ChannelFloor) (j : Floor) (f g : Frame) (o : Operand) → Legal j.shape j.seen
     → IsAt p f.tag (config_of f) (line.SetResult o) → g.tag ≡ f.tag
@@ -34,7 +30,7 @@ pub result_set : (p : Program) (c : ChannelFloor) (j : Floor) (f g : Frame) (o :
     → Stepped p (at_poll c j f) (at_poll c j g)
 unfolding items_in rows_in
 result_set p c j f g o l at t config items =
-    mild_step p c c j j f g [] _ l (Move.results (config_of f) o at) (jobs_noted [] c c j j f g [] refl refl (still_told j f g t items))
+    mild_step p c c j j f g [] _ l (Move.results (config_of f) o at) (both_nothing (self_channels f.tag c) (self_jobs f.tag j) t items)
     (nothing_mild (base_of p)) t config
     (λ w e. no_wait g _ w config refl e)
 
@@ -44,8 +40,7 @@ pub failed_by : (p : Program) (c : ChannelFloor) (j : Floor) (f g : Frame) (v : 
 unfolding items_in rows_in
 failed_by p c j f g v l at t config items =
     mild_step p c c j j f g (knew (known.Fail v) ∷ []) _ l (Move.fails (config_of f) v at)
-    (jobs_noted [] c c j j f g _ refl refl (told_knew (known.Fail v) refl t items (self_jobs f.tag j)
-    (record { moment = j.seen; after = prefix_self j.seen; before = prefix_self j.seen; mine = sym (nothing_more _); holds = tt })))
+    (both_failed v t items (self_channels f.tag c) (self_jobs f.tag j))
     (fail_mild (base_of p) v) t config (λ w e. no_wait g _ w config refl e)
 
 -- ---- what is entered and left
@@ -55,7 +50,7 @@ moved : (p : Program) (c : ChannelFloor) (j : Floor) (f g : Frame) (y : Config) 
     → wait_of y.stage ≡ None → g.tag ≡ f.tag → config_of g ≡ y → items_of g ≡ items_of f → Stepped p (at_poll c j f) (at_poll c j g)
 unfolding items_in rows_in
 moved p c j f g y l move none t config items =
-    mild_step p c c j j f g [] y l move (jobs_noted [] c c j j f g [] refl refl (still_told j f g t items)) (nothing_mild (base_of p)) t
+    mild_step p c c j j f g [] y l move (both_nothing (self_channels f.tag c) (self_jobs f.tag j) t items) (nothing_mild (base_of p)) t
     config
     (λ w e. no_wait g y w config none e)
 

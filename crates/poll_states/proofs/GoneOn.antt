@@ -33,7 +33,7 @@ use Rattle.script_meaning.specs.declared.turn.Turn.TheVariants as turn
 use Rattle.script_meaning.specs.Shapes.{base_of}
 use Rattle.script_meaning.specs.Configs.{Config, at_stage}
 use Rattle.script_meaning.specs.Moves.{Move}
-use Rattle.script_meaning.specs.Polls.{Turned, MovesOnce, RefusedByClaims, WaitsFor, AsksAgain, is_seeing, is_no_row, is_used, is_parent_ended}
+use Rattle.script_meaning.specs.Polls.{Turned, MovesOnce, RefusedByClaims, WaitsFor, HasStood, AsksAgain, is_seeing, is_no_row, is_used, is_parent_ended}
 use Rattle.script_meaning.proofs.GentleNotes.{leaves_dones}
 use Rattle.poll_states.specs.declared.jobs.OwnState.TheVariants as own
 use Rattle.poll_states.specs.Frames.{Frame, config_of, items_of, SeenAtPoll, at_poll, both_of, Stands, StandsAt, IsStanding, IsUnmoved, seen_at, channels_at}
@@ -59,6 +59,8 @@ use Rattle.script_meaning.specs.Shapes.{floor_shape}
 use Rattle.script_meaning.proofs.WaitsEnd.{scope_wait_ends}
 use Rattle.script_meaning.proofs.GroupNotes.{settle_all, all_none}
 use Rattle.poll_states.specs.Steps.{SeenWait}
+use Rattle.call_meaning.specs.Orders.{IsToldOfJobs}
+use Rattle.poll_states.specs.Heard.{HasHeardOf}
 use Rattle.poll_states.specs.SeenEnds.{EndedScopeWait}
 use Rattle.poll_states.proofs.DonesLeft.{unclosed_kept}
 use Rattle.poll_states.proofs.QuietNotes.{is_quiet, quiet_allows}
@@ -262,37 +264,44 @@ cut_behind {p} {x} {y} {b} s n =
 
 -- ---- the first line
 
-earlier : (c c' : ChannelFloor) (a b j' : Floor) (k : ℕ) (x : Config) → IsPrefix a.seen b.seen → WaitsFor c c' b j' k x
-    → WaitsFor c c' a j' k x
-earlier c c' a b j' k x longer (WaitsFor.waits w e stood runs) =
-    WaitsFor.waits w e stood (record {
+stood_earlier : (c m c' : ChannelFloor) (w : WaitId) → IsPrefix c.seen m.seen → HasStood m c' w → HasStood c c' w
+stood_earlier c m c' w longer stood = record {
+  moment = stood.moment;
+  after = spans.prefix_then c.seen m.seen stood.moment longer stood.after;
+  before = stood.before;
+  holds = stood.holds;
+}
+
+earlier : (c m c' : ChannelFloor) (a b j' : Floor) (k : ℕ) (x : Config) → IsPrefix c.seen m.seen → IsPrefix a.seen b.seen
+    → WaitsFor m c' b j' k x → WaitsFor c c' a j' k x
+earlier c m c' a b j' k x long longer (WaitsFor.waits w e stood runs) =
+    WaitsFor.waits w e (stood_earlier c m c' w long stood) (record {
       moment = runs.moment;
       after = prefix_then a.seen b.seen runs.moment longer runs.after;
-      before =
-          runs.before;
+      before = runs.before;
       holds = runs.holds;
     })
-earlier c c' a b j' k x longer (WaitsFor.leaves w e stood) = WaitsFor.leaves w e stood
-earlier c c' a b j' k x longer (WaitsFor.not_started e none) =
+earlier c m c' a b j' k x long longer (WaitsFor.leaves w e stood) = WaitsFor.leaves w e (stood_earlier c m c' w long stood)
+earlier c m c' a b j' k x long longer (WaitsFor.not_started e none) =
     WaitsFor.not_started e (record {
       moment = none.moment;
       after = prefix_then a.seen b.seen none.moment longer none.after;
-      before =
-          none.before;
+      before = none.before;
       holds = none.holds;
     })
 
-answer_earlier : (p : Program) (a m b : SeenAtPoll) (all told : List Told) (answer : Turn) → IsPrefix a.jobs.seen m.jobs.seen
+answer_earlier : (p : Program) (a m b : SeenAtPoll) (all told : List Told) (answer : Turn) → IsPrefix a.channels.seen m.channels.seen
+    → IsPrefix a.jobs.seen m.jobs.seen
     → MovesOnce p a.frame.tag (config_of a.frame) all (config_of b.frame) → AnswersTurn p m b told answer
-    → AnswersTurn p (record a { channels = m.channels }) b all answer
-answer_earlier p a m b all told turn.Ended longer moves so = so
-answer_earlier p a m b all told turn.Waits longer moves so = earlier m.channels b.channels a.jobs m.jobs b.jobs b.frame.tag
-    (config_of b.frame) longer so
-answer_earlier p a m b all told turn.Ready longer moves so = (so.0, inl moves)
+    → AnswersTurn p a b all answer
+answer_earlier p a m b all told turn.Ended long longer moves so = so
+answer_earlier p a m b all told turn.Waits long longer moves so = earlier a.channels m.channels b.channels a.jobs m.jobs b.jobs b.frame.tag
+    (config_of b.frame) long longer so
+answer_earlier p a m b all told turn.Ready long longer moves so = (so.0, inl moves)
 
 -- the coroutine of a saw its Job running, and m is at its first line
 pub record Begins (a m : SeenAtPoll) : Type 0 where
-  pub channels : m.channels ≡ a.channels
+  pub heard : IsToldOfJobs a.frame.tag a.channels m.channels m.jobs
   pub legal : Legal m.jobs.shape m.jobs.seen
   pub fresh : a.frame.stage ≡ Fresh
   pub runs : OwnStateSeen a.frame.tag a.frame.tag a.jobs m.jobs own.MayRun
@@ -307,17 +316,15 @@ begun_tells p a m h =
     let k : ℕ = a.frame.tag in
     let x : Config = config_of a.frame in
     let first : List Told = on_jobs (MayRun k) ∷ [] in
-    let n : SeenAtPoll = record m { channels = a.channels } in
-    let same : Tells p a n first = record {
+    record {
       tag = h.tag;
       turned = Turned.moved x (config_of m.frame) _ (MovesOnce.once x (config_of m.frame) _
           (subst (Move p k x first) (sym h.config) (Move.runs x h.fresh)));
-      noted = may_run_noted a.channels a.jobs m.jobs a.frame m.frame k h.runs h.tag h.items;
+      noted = may_run_noted a.channels m.channels a.jobs m.jobs a.frame m.frame k h.heard h.runs h.tag h.items;
       refused = record { no_row = λ e. absurd (let u : ⊥ = cc in u); used = λ e. absurd (let u : ⊥ = cc in u); none_ended = refl };
-      dones = unclosed_kept k (base_of p) [] [] [] (both_of a) (both_of n) [] h.legal (self_channels k a.channels) refl
-          (added_looked k [] a.jobs m.jobs h.runs.looked) tt;
-    } in
-    subst (λ d. Tells p a (record m { channels = d }) first) (sym h.channels) same
+      dones = unclosed_kept k (base_of p) [] [] [] (both_of a) (both_of m) [] h.legal
+          (spans.added_looked k a.channels m.channels h.heard.looked) refl (added_looked k [] a.jobs m.jobs h.runs.looked) tt;
+    }
 
 no_items : (k : ℕ) (told : List Told) → items_in (on_jobs (MayRun k) ∷ told) ≡ items_in told
 unfolding items_in
@@ -359,14 +366,13 @@ first_answers {p} {a} {m} {n} {b} answer legal h line went =
     let all : Turns p a b = first_turns h behind.turns in
     record {
       turns = all;
-      so = subst (λ d. AnswersTurn p (record a { channels = d }) b all.told answer) h.channels
-          (answer_earlier p a m b all.told behind.turns.told answer h.runs.looked.longer all.moves behind.so);
+      so = answer_earlier p a m b all.told behind.turns.told answer h.heard.looked.longer h.runs.looked.longer all.moves behind.so;
     }
 
 -- there was no memory to go on behind the first line
 pub cut_first_behind : {p : Program} {a m n : SeenAtPoll} (b : SeenAtPoll) → Begins a m → Stepped p m n → CutShort (both_of n) (both_of b)
     → CutShort (both_of a) (both_of b)
-cut_first_behind b h line cut = cut_first h.runs h.channels h.tag h.items (cut_behind line cut)
+cut_first_behind b h line cut = cut_first h.runs h.heard h.tag h.items (cut_behind line cut)
 
 -- ---- a turn that looks for an end, or at a wait at the end of a scope
 
@@ -402,10 +408,11 @@ unfolding items_in
 no_finish base w v = (tt, tt)
 
 -- it ended
-pub scope_waited : (p : Program) (c d c' : ChannelFloor) (j : Floor) (f g : Frame) (w : WaitId) → LegalChannels d.shape d.seen
-    → Legal j.shape j.seen → Stands p c j f → f.stage ≡ Leaving w → LookedAtChannels f.tag c d
-    → EndedScopeWait w (channels_at d f) (channels_at c' g) f g → g.tag ≡ f.tag → Stepped p (at_poll c j f) (at_poll c' j g)
-scope_waited p c d c' j f g w l lj h e look end t =
+pub scope_waited : (p : Program) (c d c' : ChannelFloor) (j j' : Floor) (f g : Frame) (w : WaitId) → LegalChannels d.shape d.seen
+    → Legal j'.shape j'.seen → Stands p c j f → f.stage ≡ Leaving w → LookedAtChannels f.tag c d
+    → EndedScopeWait w (channels_at d f) (channels_at c' g) f g → g.tag ≡ f.tag → HasHeardOf f.tag c' j j'
+    → Stepped p (at_poll c j f) (at_poll c' j' g)
+scope_waited p c d c' j j' f g w l lj h e look end t hear =
     let legal : LegalChannels (floor_shape p) d.seen = subst (λ s. LegalChannels s d.seen) (look.same.shape ∙ h.on.channels) l in
     let acts : channel_acts_of f.tag d.seen ≡ channel_acts_in (items_in h.on.runs.told) = look.mine ∙ h.on.channel_acts
     ∙ ap channel_acts_in (sym h.on.runs.written) in
@@ -413,19 +420,20 @@ scope_waited p c d c' j f g w l lj h e look end t =
     let told : List Told = made (Settle w (settled.Closed 0 closed.0)) ∷ [] in
     let noted : ToldOnChannels (channels_at d f) (channels_at c' g) told =
     subst (λ o. ToldOnChannels (channels_at d f) (channels_at c' g) (end_told w false o)) closed.1 end.noted in
-    quiet_step p c c' j j f g told (at_stage SeesScope (config_of f)) (Move.scope_ended (config_of f) w 0 closed.0 e)
-    (looked_noted c d c' j f g told look noted)
-    (unclosed_kept f.tag (base_of p) _ [] [] (seen_at c j f) (seen_at c' j g) _ lj (looked_added c d c' f g told look noted)
-    (no_closes (base_of p) w closed.0) (self_jobs f.tag j) (no_finish (base_of p) w closed.0))
+    quiet_step p c c' j j' f g told (at_stage SeesScope (config_of f)) (Move.scope_ended (config_of f) w 0 closed.0 e)
+    (looked_noted told noted)
+    (unclosed_kept f.tag (base_of p) _ [] [] (seen_at c j f) (seen_at c' j' g) _ lj (looked_added c d c' f g told look noted)
+    (no_closes (base_of p) w closed.0) (added_looked f.tag [] j j' hear.looked) (no_finish (base_of p) w closed.0))
     (settle_all is_quiet quiet_allows w (settled.Closed 0 closed.0) [] (all_none is_quiet)) t end.config
     (λ u k. absurd (let n : ⊥ = cc in n))
   where
-    looked_noted : (c d c' : ChannelFloor) (j : Floor) (f g : Frame) (told : List Told) → LookedAtChannels f.tag c d
-        → ToldOnChannels (channels_at d f) (channels_at c' g) told → ToldOnBoth [] (seen_at c j f) (seen_at c' j g) told
-    looked_noted c d c' j f g told look noted =
+    looked_noted : (told : List Told) → ToldOnChannels (channels_at d f) (channels_at c' g) told
+        → ToldOnBoth [] (seen_at c j f) (seen_at c' j' g) told
+    looked_noted told noted =
         let first : ToldOnBoth [] (seen_at c j f) (seen_at d j f) [] =
         nothing_noted c d j j f f (spans.added_looked f.tag c d look) (self_jobs f.tag j) refl refl in
-        let second : ToldOnBoth [] (seen_at d j f) (seen_at c' j g) told = both_channels (self_jobs f.tag j) noted in
+        let second : ToldOnBoth [] (seen_at d j f) (seen_at c' j' g) told =
+        both_channels (added_looked f.tag [] j j' hear.looked) hear.heard noted in
         both_then first second
 
     looked_added : (c d c' : ChannelFloor) (f g : Frame) (told : List Told) → LookedAtChannels f.tag c d
@@ -461,18 +469,18 @@ quiet_on A s b (Err memory) legal h step cut = tt
 
 pub poll_first_on : (s : Script) {a m n : SeenAtPoll} (b : SeenAtPoll) (r : Result Turn Memory) → Legal b.jobs.shape b.jobs.seen
     → IsStanding s a
-    → Begins a m → Stepped (program_of s) m n → WentOnAnswer s n b r → PollAnswer s a b r
-poll_first_on s {a} b (Ok answer) legal h begins line went =
+    → Stepped (program_of s) m n → WentOnAnswer s n b r → Begins a m → PollAnswer s a b r
+poll_first_on s {a} b (Ok answer) legal h line went begins =
     let all : Answers (program_of s) a b answer = first_answers answer legal begins line went
     in polled_to (program_of s) a b all.turns.told answer h all.turns.tells all.so
-poll_first_on s b (Err memory) legal h begins line cut = cut_first_behind b begins line cut
+poll_first_on s b (Err memory) legal h line cut begins = cut_first_behind b begins line cut
 
 pub quiet_first_on : (A : Type 0) (s : Script) {a m n : SeenAtPoll} (b : SeenAtPoll) (r : Result Turn Memory)
     → Legal b.jobs.shape b.jobs.seen
-    → IsStanding s a → Begins a m → Stepped (program_of s) m n → WentOnAnswer s n b r → OnOk r (IsUnmoved a.frame b.frame → A)
-quiet_first_on A s b (Ok answer) legal h begins line went =
+    → IsStanding s a → Stepped (program_of s) m n → WentOnAnswer s n b r → Begins a m → OnOk r (IsUnmoved a.frame b.frame → A)
+quiet_first_on A s b (Ok answer) legal h line went begins =
     λ u. turns_quiet s.well_formed h (first_answers answer legal begins line went).turns u
-quiet_first_on A s b (Err memory) legal h begins line cut = tt
+quiet_first_on A s b (Err memory) legal h line cut begins = tt
 
 -- ---- stages at which an end is still to be seen
 

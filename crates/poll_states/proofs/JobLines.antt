@@ -4,6 +4,7 @@ use Rattle.std.specs.List.{list_any}
 use Rattle.std.proofs.Common.{sym, ap, ◌∙◌, subst, inl, inr, ⊎_elim}
 use Rattle.channel_model.specs.Histories.{acts_of}
 use Rattle.channel_model.specs.Floors.{Floor as ChannelFloor}
+use Rattle.channel_model.proofs.Spans as spans
 use Rattle.job_model.specs.declared.acts.JobAct.TheVariants.{Attach}
 use Rattle.job_model.specs.declared.acts.JobNote.TheVariants as known
 use Rattle.job_model.specs.declared.acts.Reason.TheVariants as reasons
@@ -43,6 +44,7 @@ use Rattle.script_meaning.proofs.JobDebts.{parents_in}
 use Rattle.poll_states.specs.declared.jobs.OwnState.TheVariants as own
 use Rattle.poll_states.specs.Frames.{Frame, config_of, items_of, Stands, seen_at, jobs_at, SeenAtPoll, at_poll, both_of, StandsAt}
 use Rattle.poll_states.specs.Steps.{OwnStateSeen, IsAtEnd, HasBody, Stepped}
+use Rattle.call_meaning.specs.Orders.{IsToldOfJobs}
 use Rattle.script_meaning.specs.Laws.{wait_of}
 use Rattle.script_meaning.specs.Bodies.{is_over, is_fresh, is_leaving, IsOwnRow, HasBodyAt}
 use Rattle.job_model.proofs.Lasting.{tag_lasts}
@@ -53,67 +55,76 @@ use Rattle.script_meaning.proofs.GroupNotes.{passes_all, end_all, break_all}
 use Rattle.script_meaning.proofs.GentleNotes.{attach_mild}
 use Rattle.poll_states.proofs.Mild.{saw_mild, nothing_mild, one_fact_mild, starts_mild, passes_mild}
 use Rattle.poll_states.proofs.QuietNotes.{is_quiet, quiet_allows, quiet_ends, quiet_rows, quiet_refused}
-use Rattle.poll_states.proofs.Stepping.{told_at, both_at, dones_at, self_channels, uncalled, no_wait, mild_step, jobs_noted, known_of}
+use Rattle.poll_states.proofs.Stepping.{told_at, both_at, dones_at, no_wait, mild_step, jobs_noted, known_of}
 
 -- ---- looks at one's own Job
 
 -- a Job of its own was seen Cancelling, and that was noted
-pub saw_noted : (c : ChannelFloor) (a b : Floor) (f g : Frame) (row : ℕ) → OwnStateSeen f.tag row a b own.Cancelling → g.tag ≡ f.tag
-    → items_of g ≡ items_of f ++ item.Job (known.Saw row) ∷ [] → ToldOnBoth [] (seen_at c a f) (seen_at c b g) (saw row ∷ [])
-saw_noted c a b f g row s t is = both_jobs (self_channels f.tag c)
+pub saw_noted : (c d : ChannelFloor) (a b : Floor) (f g : Frame) (row : ℕ) → IsToldOfJobs f.tag c d b
+    → OwnStateSeen f.tag row a b own.Cancelling → g.tag ≡ f.tag
+    → items_of g ≡ items_of f ++ item.Job (known.Saw row) ∷ [] → ToldOnBoth [] (seen_at c a f) (seen_at d b g) (saw row ∷ [])
+saw_noted c d a b f g row e s t is = both_jobs (spans.added_looked f.tag c d e.looked) e.told
     (told_knew (known.Saw row) refl t is (added_looked f.tag [] a b s.looked) (looked_moment f.tag [] a b _ s.looked s.was))
 
 -- it was seen running
-pub may_run_noted : (c : ChannelFloor) (a b : Floor) (f g : Frame) (row : ℕ) → OwnStateSeen f.tag row a b own.MayRun → g.tag ≡ f.tag
-    → items_of g ≡ items_of f → ToldOnBoth [] (seen_at c a f) (seen_at c b g) (on_jobs (MayRun row) ∷ [])
-may_run_noted c a b f g row s t is = both_jobs (self_channels f.tag c)
+pub may_run_noted : (c d : ChannelFloor) (a b : Floor) (f g : Frame) (row : ℕ) → IsToldOfJobs f.tag c d b
+    → OwnStateSeen f.tag row a b own.MayRun → g.tag ≡ f.tag
+    → items_of g ≡ items_of f → ToldOnBoth [] (seen_at c a f) (seen_at d b g) (on_jobs (MayRun row) ∷ [])
+may_run_noted c d a b f g row e s t is = both_jobs (spans.added_looked f.tag c d e.looked) e.told
     (told_fact (MayRun row) t is (added_looked f.tag [] a b s.looked) (looked_moment f.tag [] a b _ s.looked s.was))
 
-saw_step : (p : Program) (c : ChannelFloor) (a b : Floor) (f g : Frame) (row : ℕ) → Legal b.shape b.seen
+saw_step : (p : Program) (c d : ChannelFloor) (a b : Floor) (f g : Frame) (row : ℕ) → IsToldOfJobs f.tag c d b → Legal b.shape b.seen
     → Move p f.tag (config_of f) (saw row ∷ []) (at_stage (Unwinding None) (config_of f)) → OwnStateSeen f.tag row a b own.Cancelling
     → g.tag ≡ f.tag → config_of g ≡ at_stage (Unwinding None) (config_of f) → items_of g ≡ items_of f ++ item.Job (known.Saw row) ∷ []
-    → Stepped p (at_poll c a f) (at_poll c b g)
+    → Stepped p (at_poll c a f) (at_poll d b g)
 unfolding items_in rows_in
-saw_step p c a b f g row l move s t config items =
-    mild_step p c c a b f g (saw row ∷ []) _ l move (saw_noted c a b f g row s t items)
-    (saw_mild (base_of p) row [] (nothing_mild (base_of p))) t config (λ w e. no_wait g _ w config refl e)
+saw_step p c d a b f g row e l move s t config items =
+    mild_step p c d a b f g (saw row ∷ []) _ l move (saw_noted c d a b f g row e s t items)
+    (saw_mild (base_of p) row [] (nothing_mild (base_of p))) t config (λ w k. no_wait g _ w config refl k)
 
-run_step : (p : Program) (c : ChannelFloor) (a b : Floor) (f g : Frame) (row : ℕ) (y : Config) → Legal b.shape b.seen
+run_step : (p : Program) (c d : ChannelFloor) (a b : Floor) (f g : Frame) (row : ℕ) (y : Config) → IsToldOfJobs f.tag c d b
+    → Legal b.shape b.seen
     → Move p f.tag (config_of f) (on_jobs (MayRun row) ∷ []) y → wait_of y.stage ≡ None → OwnStateSeen f.tag row a b own.MayRun
-    → g.tag ≡ f.tag → config_of g ≡ y → items_of g ≡ items_of f → Stepped p (at_poll c a f) (at_poll c b g)
+    → g.tag ≡ f.tag → config_of g ≡ y → items_of g ≡ items_of f → Stepped p (at_poll c a f) (at_poll d b g)
 unfolding items_in rows_in
-run_step p c a b f g row y l move none s t config items =
-    mild_step p c c a b f g (on_jobs (MayRun row) ∷ []) y l move (may_run_noted c a b f g row s t items)
-    (one_fact_mild (base_of p) (MayRun row)) t config (λ w e. no_wait g y w config none e)
+run_step p c d a b f g row y e l move none s t config items =
+    mild_step p c d a b f g (on_jobs (MayRun row) ∷ []) y l move (may_run_noted c d a b f g row e s t items)
+    (one_fact_mild (base_of p) (MayRun row)) t config (λ w k. no_wait g y w config none k)
 
-pub stopped : (p : Program) (c : ChannelFloor) (a b : Floor) (f g : Frame) → Legal b.shape b.seen → IsAt p f.tag (config_of f) line.Yield
+pub stopped : (p : Program) (c d : ChannelFloor) (a b : Floor) (f g : Frame) → IsToldOfJobs f.tag c d b → Legal b.shape b.seen
+    → IsAt p f.tag (config_of f) line.Yield
     → OwnStateSeen f.tag (innermost f.tag (config_of f)) a b own.Cancelling → g.tag ≡ f.tag
     → config_of g ≡ at_stage (Unwinding None) (config_of f)
-    → items_of g ≡ items_of f ++ item.Job (known.Saw (innermost f.tag (config_of f))) ∷ [] → Stepped p (at_poll c a f) (at_poll c b g)
-stopped p c a b f g l at s t config items = saw_step p c a b f g (innermost f.tag (config_of f)) l (Move.stops_at_yield (config_of f) at) s
-    t config items
+    → items_of g ≡ items_of f ++ item.Job (known.Saw (innermost f.tag (config_of f))) ∷ [] → Stepped p (at_poll c a f) (at_poll d b g)
+stopped p c d a b f g e l at s t config items =
+    saw_step p c d a b f g (innermost f.tag (config_of f)) e l (Move.stops_at_yield (config_of f) at) s t config items
 
-pub yielded : (p : Program) (c : ChannelFloor) (a b : Floor) (f g : Frame) → Legal b.shape b.seen → IsAt p f.tag (config_of f) line.Yield
+pub yielded : (p : Program) (c d : ChannelFloor) (a b : Floor) (f g : Frame) → IsToldOfJobs f.tag c d b → Legal b.shape b.seen
+    → IsAt p f.tag (config_of f) line.Yield
     → OwnStateSeen f.tag (innermost f.tag (config_of f)) a b own.MayRun → g.tag ≡ f.tag → config_of g ≡ next (config_of f)
-    → items_of g ≡ items_of f → Stepped p (at_poll c a f) (at_poll c b g)
-yielded p c a b f g l at s t config items = run_step p c a b f g (innermost f.tag (config_of f)) _ l (Move.yields (config_of f) at) refl s t
-    config items
+    → items_of g ≡ items_of f → Stepped p (at_poll c a f) (at_poll d b g)
+yielded p c d a b f g e l at s t config items =
+    run_step p c d a b f g (innermost f.tag (config_of f)) _ e l (Move.yields (config_of f) at) refl s t config items
 
 -- the same before the first line
-pub never_begun : (p : Program) (c : ChannelFloor) (a b : Floor) (f g : Frame) → Legal b.shape b.seen → f.stage ≡ Fresh
+pub never_begun : (p : Program) (c d : ChannelFloor) (a b : Floor) (f g : Frame) → IsToldOfJobs f.tag c d b → Legal b.shape b.seen
+    → f.stage ≡ Fresh
     → OwnStateSeen f.tag f.tag a b own.Cancelling → g.tag ≡ f.tag → config_of g ≡ at_stage (Unwinding None) (config_of f)
-    → items_of g ≡ items_of f ++ item.Job (known.Saw f.tag) ∷ [] → Stepped p (at_poll c a f) (at_poll c b g)
-never_begun p c a b f g l fresh s t config items = saw_step p c a b f g f.tag l (Move.never_runs (config_of f) fresh) s t config items
+    → items_of g ≡ items_of f ++ item.Job (known.Saw f.tag) ∷ [] → Stepped p (at_poll c a f) (at_poll d b g)
+never_begun p c d a b f g e l fresh s t config items =
+    saw_step p c d a b f g f.tag e l (Move.never_runs (config_of f) fresh) s t config items
 
-pub has_begun : (p : Program) (c : ChannelFloor) (a b : Floor) (f g : Frame) → Legal b.shape b.seen → f.stage ≡ Fresh
+pub has_begun : (p : Program) (c d : ChannelFloor) (a b : Floor) (f g : Frame) → IsToldOfJobs f.tag c d b → Legal b.shape b.seen
+    → f.stage ≡ Fresh
     → OwnStateSeen f.tag f.tag a b own.MayRun → g.tag ≡ f.tag → config_of g ≡ at_stage Running (config_of f) → items_of g ≡ items_of f
-    → Stepped p (at_poll c a f) (at_poll c b g)
-has_begun p c a b f g l fresh s t config items = run_step p c a b f g f.tag _ l (Move.runs (config_of f) fresh) refl s t config items
+    → Stepped p (at_poll c a f) (at_poll d b g)
+has_begun p c d a b f g e l fresh s t config items =
+    run_step p c d a b f g f.tag _ e l (Move.runs (config_of f) fresh) refl s t config items
 
 -- ---- launch
 
 pub has_launched : (p : Program) {a b : SeenAtPoll} {parent block size : ℕ} {how : Launching} {lazy : Bool} {job : Option ℕ} {now : Bool}
-    → b.channels ≡ a.channels → Legal b.jobs.shape b.jobs.seen
+    → IsToldOfJobs a.frame.tag a.channels b.channels b.jobs → Legal b.jobs.shape b.jobs.seen
     → IsAt p a.frame.tag (config_of a.frame) (line.Launch block how job)
     → parent ≡ innermost a.frame.tag (config_of a.frame) → lazy ≡ is_lazy how → size ≡ size_of p block
     → ToldOnJobs (a.frame.free ∷ []) (jobs_at a.jobs a.frame) (jobs_at b.jobs b.frame)
@@ -160,7 +171,8 @@ never_told_over w who row rows c j j' i i' more l body e f h =
     own_at at l p (IsOwnRow.own k lt) = IsOwnRow.own k (subst (λ n. who < n) (sym (ap (λ (s : Shape). s.coroutines) h.added.same.shape)) lt)
     own_at at l p (IsOwnRow.scope t) = IsOwnRow.scope (prefix_keeps (λ x. tag_of x ≡ Some who) (tag_lasts who) j'.shape j.seen at row l p t)
 
-refused_step : (p : Program) (c d : ChannelFloor) (j j' : Floor) (f g : Frame) (block : ℕ) (how : Launching) (job : Option ℕ) → d ≡ c
+refused_step : (p : Program) (c d : ChannelFloor) (j j' : Floor) (f g : Frame) (block : ℕ) (how : Launching) (job : Option ℕ)
+    → IsToldOfJobs f.tag c d j'
     → IsAt p f.tag (config_of f) (line.Launch block how job) → is_some (j'.claims f.free) ≡ true
     → ToldOnJobs [] (jobs_at j f) (jobs_at j' g) (knew known.Used ∷ [])
     → Legal j'.shape j'.seen → g.tag ≡ f.tag → config_of g ≡ at_stage (Unwinding (Some f.tag)) (config_of f)
@@ -173,7 +185,8 @@ refused_step p c d j j' f g block how job e at claimed noted l t config = record
       (Move.launch_refused (config_of f) block how job _ at NotAttached.used);
   noted = jobs_noted [] c d j j' f g _ e refl noted;
   refused = record { no_row = λ k. absurd (let u : ⊥ = cc in u); used = λ k. claimed; none_ended = refl };
-  dones = unclosed_kept f.tag (base_of p) [] [] [] (seen_at c j f) (seen_at d j' g) _ l (uncalled f.tag c d e) refl noted.added (tt, tt);
+  dones = unclosed_kept f.tag (base_of p) [] [] [] (seen_at c j f) (seen_at d j' g) _ l (spans.added_looked f.tag c d e.looked) refl
+      noted.added (tt, tt);
   stood = λ w k. no_wait g _ w config refl k;
 }
 
@@ -189,7 +202,8 @@ refused_for {parent} {tag} lazy {old} {new} which answer =
     which
 
 pub launch_refused : (p : Program) {a : SeenAtPoll} {d : ChannelFloor} {m : SeenOnJobs} {g : Frame} {parent block : ℕ} {how : Launching}
-    {job : Option ℕ} → d ≡ a.channels → Legal a.jobs.shape a.jobs.seen → Legal m.floor.shape m.floor.seen → StandsAt p a
+    {job : Option ℕ} → IsToldOfJobs a.frame.tag a.channels d m.floor → Legal a.jobs.shape a.jobs.seen → Legal m.floor.shape m.floor.seen
+    → StandsAt p a
     → IsAt p a.frame.tag (config_of a.frame) (line.Launch block how job) → parent ≡ innermost a.frame.tag (config_of a.frame)
     → ((is_some (m.floor.claims a.frame.free) ≡ true) × ToldOnJobs [] (jobs_at a.jobs a.frame) m (knew known.Used ∷ []))
     ⊎ ToldOnJobs (a.frame.free ∷ []) (jobs_at a.jobs a.frame) m (on_jobs (HasEnded parent) ∷ knew known.ParentEnded ∷ [])
@@ -216,7 +230,7 @@ unfolding items_in rows_in
 started_rows true row = refl
 started_rows false row = refl
 
-pub has_started : (p : Program) (c d : ChannelFloor) (j j' : Floor) (f g : Frame) (job row : ℕ) (now : Bool) → d ≡ c
+pub has_started : (p : Program) (c d : ChannelFloor) (j j' : Floor) (f g : Frame) (job row : ℕ) (now : Bool) → IsToldOfJobs f.tag c d j'
     → Legal j'.shape j'.seen → IsAt p f.tag (config_of f) (line.Start job) → slice_get f.rows.items job ≡ Some row
     → ToldOnJobs [] (jobs_at j f) (jobs_at j' g) (start_told now row) → g.tag ≡ f.tag → config_of g ≡ next (config_of f)
     → Stepped p (at_poll c j f) (at_poll d j' g)
@@ -226,12 +240,14 @@ has_started p c d j j' f g job row now e l at is noted t config =
     t config
     (λ w k. no_wait g _ w config refl k)
 
-pub has_cancelled : (p : Program) (c d : ChannelFloor) (j j' : Floor) (f g : Frame) (job row count : ℕ) → d ≡ c → Legal j'.shape j'.seen
+pub has_cancelled : (p : Program) (c d : ChannelFloor) (j j' : Floor) (f g : Frame) (job row count : ℕ) → IsToldOfJobs f.tag c d j'
+    → Legal j'.shape j'.seen
     → Stands p c j f → IsAt p f.tag (config_of f) (line.Cancel job) → slice_get f.rows.items job ≡ Some row
     → CancelledAll row (jobs_at j f) (jobs_at j' g) count → g.tag ≡ f.tag → config_of g ≡ next (config_of f)
     → Stepped p (at_poll c j f) (at_poll d j' g)
 has_cancelled p c d j j' f g job row count e l h at is all t config =
-    let raw : ToldOnBoth [] (seen_at c j f) (seen_at d j' g) all.told = both_jobs (uncalled f.tag c d e) all.noted in
+    let raw : ToldOnBoth [] (seen_at c j f) (seen_at d j' g) all.told =
+    both_jobs (spans.added_looked f.tag c d e.looked) e.told all.noted in
     let known = known_of c d j j' f g [] all.told l h.on.channel_acts h.on.job_acts raw in
     let rows = quiet_rows all.told (passes_all is_quiet quiet_allows (parents_in j'.seen) row reasons.Request all.newly all.told known
     all.group) in

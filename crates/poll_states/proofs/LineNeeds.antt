@@ -126,6 +126,7 @@ jobs_same rows j j' w f g mid told h t e = record {
       ∙ h.appended;
   added = h.added;
   no_channels = h.no_channels;
+  of_jobs = h.of_jobs;
   was_so = h.was_so;
 }
 

@@ -1,6 +1,7 @@
 -- A coroutine that stands goes on to stand after what it told.
-use Rattle.std.specs.Prelude.{◌≡◌, ℕ, ◌<◌, ◌==◌, Bool, ◌||◌, List, [], ◌∷◌, ◌++◌, refl, if◌then◌else◌}
+use Rattle.std.specs.Prelude.{◌≡◌, ℕ, ◌<◌, ◌==◌, Bool, true, ◌||◌, List, [], ◌∷◌, ◌++◌, refl, if◌then◌else◌}
 use Rattle.std.proofs.Common.{sym, ap, ◌∙◌, subst, append_assoc}
+use Rattle.co_base.specs.Orders.{Side}
 use Rattle.channel_model.specs.Histories.{acts_of}
 use Rattle.job_model.specs.declared.acts.JobAct.{JobAct}
 use Rattle.job_model.specs.Trees.{is_among}
@@ -12,12 +13,13 @@ use Rattle.note_book.specs.Items.{channel_acts_in, job_acts_in}
 use Rattle.note_book.proofs.Appended.{channel_acts_in-append, job_acts_in-append}
 use Rattle.call_meaning.specs.Telling.{Told, items_in}
 use Rattle.call_meaning.specs.Stories.{IsTrue, story_of}
+use Rattle.call_meaning.specs.Orders.{IsAt as At, WasSoAlong}
 use Rattle.call_meaning.specs.Calls.{ToldOnBoth, seen_by, rows_in, row_in}
 use Rattle.scope_builders.specs.Dones.{KeepsDones}
 use Rattle.script_grammar.specs.Programs.{Program}
 use Rattle.script_grammar.specs.Tags.{coroutine_count}
 use Rattle.script_meaning.specs.declared.turn.Turn.{Turn}
-use Rattle.script_meaning.specs.Shapes.{base_of}
+use Rattle.script_meaning.specs.Shapes.{base_of, floor_shape}
 use Rattle.script_meaning.specs.Books.{Runs, story}
 use Rattle.script_meaning.specs.Polls.{Turned, MovesOnce, RefusedByClaims, own_rows, TurnAnswer}
 use Rattle.script_meaning.proofs.BooksGoOn.{runs_then}
@@ -64,6 +66,14 @@ tells_true : (p : Program) (a b : SeenAtPoll) (told : List Told) → StandsAt p 
 tells_true p a b told h s =
     subst (λ sh. IsTrue (story_of sh a.frame.tag (seen_by b.channels b.jobs)) (items_of a.frame) (seen_by a.channels a.jobs) told)
     h.on.channels (s.noted.was_so (items_of a.frame) h.on.channel_acts h.on.job_acts)
+
+-- and along the order of both histories
+tells_along : (p : Program) (a b : SeenAtPoll) (told : List Told) → StandsAt p a → Tells p a b told → a.jobs.joint ≡ true
+    → (point : List Side) → At a.frame.tag a.channels a.jobs (items_of a.frame) point
+    → WasSoAlong (floor_shape p) a.frame.tag (items_of a.frame) b.channels b.jobs told point
+tells_along p a b told h s joint point at =
+    subst (λ sh. WasSoAlong sh a.frame.tag (items_of a.frame) b.channels b.jobs told point) h.on.channels
+    (s.noted.along joint (items_of a.frame) h.on.channel_acts h.on.job_acts point at)
 
 pub tells_stand : (p : Program) (a b : SeenAtPoll) (told : List Told) → StandsAt p a → Tells p a b told → StandsAt p b
 tells_stand p a b told h s =
@@ -118,6 +128,7 @@ polled_to p a b told answer h s so = record {
     channels = s.noted.channels;
     jobs = s.noted.jobs;
     refused = s.refused;
+    along = tells_along p a b told h s;
   };
   turn = so;
   stands = tells_stand p a b told h s;

@@ -43,11 +43,11 @@ has_named p base x m g i job own row a e l h at uses is named_row did who t conf
         → ((n : ℕ) → job_used i ≡ Some n → slice_get x.frame.rows.items n ≡ Some row) → NamedTells i base own row (both_of x) m a
         → config_of g ≡ after_named p x.frame.tag before i a → Stepped p x (at_poll m.channels m.jobs g)
     by_line (line.Start n) at named did config =
-        has_started p x.channels m.channels x.jobs m.jobs x.frame g n row did.1.now did.1.uncalled l at (named n refl)
+        has_started p x.channels m.channels x.jobs m.jobs x.frame g n row did.1.now did.1.heard l at (named n refl)
         (jobs_same [] x.jobs m.jobs m.who x.frame g m.items _ did.1.noted t items) t
         (config ∙ ap (after_named p x.frame.tag before (line.Start n)) did.0)
     by_line (line.Cancel n) at named did config =
-        has_cancelled p x.channels m.channels x.jobs m.jobs x.frame g n row did.1.count did.1.uncalled l h at (named n refl)
+        has_cancelled p x.channels m.channels x.jobs m.jobs x.frame g n row did.1.count did.1.heard l h at (named n refl)
         (all_same row did.1.count x.jobs m.jobs m.who x.frame g m.items did.1.all t items) t
         (config ∙ ap (after_named p x.frame.tag before (line.Cancel n)) did.0)
     by_line (line.Join n) at named did config =

@@ -43,6 +43,7 @@ use Rattle.poll_states.specs.Frames.{Frame, config_of, items_of, SeenAtPoll, at_
 use Rattle.poll_states.specs.Steps.{Stepped, MovesOn}
 use Rattle.poll_states.specs.SeenEnds.{WentOn, WentOnAnswer}
 use Rattle.poll_states.specs.Selecting.{AfterChosen, AfterSelect, waits_with}
+use Rattle.poll_states.specs.Heard.{HasHeardOf}
 use Rattle.poll_states.proofs.FloorsOfScripts.{no_signal}
 use Rattle.poll_states.proofs.LineNeeds.{stands_call}
 use Rattle.poll_states.proofs.Mild.{AllMild}
@@ -122,13 +123,15 @@ chosen_runs p k x y outcome.Sent h = ap (λ (z : Config). wait_of z.stage) h.2
 chosen_runs p k x y (outcome.Value v) h = ap (λ (z : Config). wait_of z.stage) h.2
 chosen_runs p k x y (outcome.Closed v) h = ap (λ (z : Config). wait_of z.stage) h.2
 
-pub has_selected : (p : Program) (old : SeenAtPoll) (new : SeenOnChannels) (g : Frame) (calls : List Call) (held : Option WaitId)
-    (answer : SelectAnswer) → IsProgram p → Legal old.jobs.shape old.jobs.seen → IsAt p old.frame.tag (config_of old.frame) line.Select
+pub has_selected : (p : Program) (old : SeenAtPoll) (j : Floor) (new : SeenOnChannels) (g : Frame) (calls : List Call)
+    (held : Option WaitId)
+    (answer : SelectAnswer) → HasHeardOf old.frame.tag new.floor old.jobs j → IsProgram p → Legal j.shape j.seen
+    → IsAt p old.frame.tag (config_of old.frame) line.Select
     → calls ≡ clauses_at p old.frame.tag (config_of old.frame)
     → SelectedAnswer calls (channels_at old.channels old.frame) new held (Ok answer) → new.who ≡ old.frame.tag → g.tag ≡ old.frame.tag
     → AfterSelect p old.frame.tag answer held (config_of old.frame) (config_of g) → items_of g ≡ new.items
-    → Stepped p old (at_poll new.floor old.jobs g)
-has_selected p old new g calls held answer ok l at is came who t config items =
+    → Stepped p old (at_poll new.floor j g)
+has_selected p old j new g calls held answer hear ok l at is came who t config items =
     by_answer answer (subst (λ cs. SelectedAnswer cs (channels_at old.channels old.frame) (channels_at new.floor g) held (Ok answer)) is
     (as_frame_on_channels (λ (z : SeenOnChannels). SelectedAnswer calls (channels_at old.channels old.frame) z held (Ok answer)) new.floor
     new.who new.items g (who
@@ -138,16 +141,17 @@ has_selected p old new g calls held answer ok l at is came who t config items =
         → After p old.frame.tag (config_of old.frame) line.Select a (config_of g)
         → ToldOnChannels (channels_at old.channels old.frame) (channels_at new.floor g) told
         → ((w : WaitId) → wait_of (config_of g).stage ≡ Some w → HasStood old.channels new.floor w)
-        → Stepped p old (at_poll new.floor old.jobs g)
+        → Stepped p old (at_poll new.floor j g)
     say a told call after noted stood =
-        called p old.channels new.floor old.jobs old.frame g line.Select told a (config_of g) l at (LineCalls.select told a call) after
+        called p old.channels new.floor old.jobs j old.frame g line.Select told a (config_of g) hear l at (LineCalls.select told a call)
+        after
         noted
         (select_mild p old.frame told a ok call) t refl stood
 
     by_answer : (answer : SelectAnswer) → SelectedAnswer (clauses_at p old.frame.tag (config_of old.frame))
         (channels_at old.channels old.frame) (channels_at new.floor g) held
         (Ok answer) → AfterSelect p old.frame.tag answer held (config_of old.frame) (config_of g)
-        → Stepped p old (at_poll new.floor old.jobs g)
+        → Stepped p old (at_poll new.floor j g)
     by_answer (came_to.Chosen n o) m e =
         let call = chosen_call (clauses_at p old.frame.tag (config_of old.frame)) n o m.1.told m.1.goes in
         say call.0 m.1.told call.1 (after_chosen p old.frame.tag (config_of old.frame) (config_of g) call.0 o call.2 e) m.1.left

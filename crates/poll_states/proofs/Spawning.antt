@@ -298,7 +298,7 @@ refused_used j j' f g at claimed noted config =
 
 -- channels on which nothing was done
 uncalled_channels : ChannelFloor
-uncalled_channels = record { shape = []; seen = []; spare = 0; alone = true; callers = λ t. true }
+uncalled_channels = record { shape = []; seen = []; spare = 0; alone = true; callers = λ t. true; order = [] }
 
 nothing_done : acts_of 0 uncalled_channels.seen ≡ []
 unfolding acts_of uncalled_channels

@@ -15,7 +15,8 @@ use Rattle.call_meaning.specs.Telling.{Told, items_in}
 use Rattle.call_meaning.specs.Facts.{IsRunning}
 use Rattle.call_meaning.specs.Seen.{SeenOnBoth}
 use Rattle.call_meaning.specs.Calls.{ToldOnBoth, rows_in}
-use Rattle.call_meaning.proofs.JobTellings.{told_nothing, both_jobs, both_then}
+use Rattle.call_meaning.proofs.JobTellings.{both_then}
+use Rattle.call_meaning.proofs.HeardCalls.{both_nothing}
 use Rattle.scope_builders.specs.Dones.{KeepsDones}
 use Rattle.scope_builders.proofs.DonesKept.{kept_then}
 use Rattle.script_grammar.specs.Programs.{Program}
@@ -32,7 +33,9 @@ use Rattle.poll_states.specs.declared.jobs.OwnState.TheVariants as own
 use Rattle.script_meaning.specs.Laws.{wait_of}
 use Rattle.script_meaning.specs.Bodies.{is_over}
 use Rattle.poll_states.specs.Frames.{Frame, config_of, items_of, SeenAtPoll, at_poll, both_of, Stands, StandsAt, IsUnmoved, seen_at}
-use Rattle.poll_states.specs.Steps.{Stepped, CutShort, OwnStateSeen, SeenWait, PolledTo, HasPolled, IsAnswerAt}
+use Rattle.poll_states.specs.Steps.{Stepped, CutShort, OwnStateSeen, SeenBoth, PolledTo, HasPolled, IsAnswerAt}
+use Rattle.call_meaning.specs.Orders.{IsToldOfJobs}
+use Rattle.poll_states.proofs.BothSeen.{channels_since, state_since}
 use Rattle.poll_states.proofs.Standing.{stands_fits}
 use Rattle.poll_states.proofs.Changing.{never_unmoved}
 use Rattle.poll_states.proofs.DonesLeft.{unclosed_kept}
@@ -45,7 +48,7 @@ use Rattle.poll_states.proofs.JobLines.{has_begun}
 -- nothing was told, while who made no entry
 pub nothing_noted : (c d : ChannelFloor) (a b : Floor) (f g : Frame) → AddedToChannels f.tag [] c d → Added f.tag [] [] a b → g.tag ≡ f.tag
     → items_of g ≡ items_of f → ToldOnBoth [] (seen_at c a f) (seen_at d b g) []
-nothing_noted c d a b f g h m t e = both_jobs h (told_nothing t e m)
+nothing_noted c d a b f g h m t e = both_nothing h m t e
 
 -- what was claimed stays claimed
 pub claims_later : (x : Config) (notes : List Item) (who : ℕ) (a b : Floor) → Added who [] [] a b → RefusedByClaims x notes a
@@ -156,15 +159,16 @@ polled_ended p c j f l h e = polled_still p (at_poll c j f) (at_poll c j f) turn
     (self_jobs f.tag j) e
 
 -- the wait stands, and the Job runs
-pub polled_waits : {p : Program} {c c' : ChannelFloor} {a b : Floor} {f g : Frame} {w : WaitId} → Legal b.shape b.seen → Stands p c a f
-    → f.stage ≡ Waiting w → SeenWait f.tag w c c' false → OwnStateSeen f.tag (innermost f.tag (config_of f)) a b own.MayRun → g.tag ≡ f.tag
-    → config_of g ≡ config_of f → items_of g ≡ items_of f → PolledTo p c c' a b f g turn.Waits
-polled_waits {p} {c} {c'} {a} {b} {f} {g} {w} l h e seen s t config items =
-    polled_still p (at_poll c a f) (at_poll c' b g) turn.Waits l h t config items (spans.added_looked f.tag c c' seen.looked)
-    (added_looked f.tag [] a b s.looked)
-    (WaitsFor.waits w (ap (λ (x : Config). x.stage) config
-    ∙ e) seen.so (subst (λ k. AtStep a b (λ tree. IsRunning (tree (innermost k (config_of g))))) (sym t)
-    (subst (λ x. AtStep a b (λ tree. IsRunning (tree (innermost f.tag x)))) (sym config) s.was)))
+pub polled_waits : {p : Program} {c d' : ChannelFloor} {a b : Floor} {f g : Frame} {w : WaitId} → Legal b.shape b.seen → Stands p c a f
+    → f.stage ≡ Waiting w → SeenBoth f.tag w (innermost f.tag (config_of f)) c d' a b false own.MayRun → g.tag ≡ f.tag
+    → config_of g ≡ config_of f → items_of g ≡ items_of f → PolledTo p c d' a b f g turn.Waits
+polled_waits {p} {c} {d'} {a} {b} {f} {g} {w} l h e s t config items =
+    polled_still p (at_poll c a f) (at_poll d' b g) turn.Waits l h t config items
+    (spans.added_looked f.tag c d' (channels_since s)) (added_looked f.tag [] a b (state_since s).looked)
+    (WaitsFor.waits w (ap (λ (x : Config). x.stage) config ∙ e)
+    (spans.moment_within c c s.channels d' _ (spans.prefix_self c.seen) s.wait.so s.told.looked.longer)
+    (subst (λ k. AtStep a b (λ tree. IsRunning (tree (innermost k (config_of g))))) (sym t)
+    (subst (λ x. AtStep a b (λ tree. IsRunning (tree (innermost f.tag x)))) (sym config) (state_since s).was)))
 
 -- the own Job was not attached, or New
 pub polled_idle : (p : Program) (c : ChannelFloor) (a b : Floor) (f g : Frame) → Legal b.shape b.seen → Stands p c a f → f.stage ≡ Fresh
@@ -178,21 +182,23 @@ polled_idle p c a b f g l h e s t config items =
 -- ---- the first line
 
 -- the coroutine began
-pub first_stands : (p : Program) (c : ChannelFloor) (a b : Floor) (f m : Frame) → Legal b.shape b.seen → Stands p c a f → f.stage ≡ Fresh
+pub first_stands : (p : Program) (c d : ChannelFloor) (a b : Floor) (f m : Frame) → IsToldOfJobs f.tag c d b → Legal b.shape b.seen
+    → Stands p c a f → f.stage ≡ Fresh
     → OwnStateSeen f.tag f.tag a b own.MayRun → m.tag ≡ f.tag → config_of m ≡ at_stage Running (config_of f) → items_of m ≡ items_of f
-    → Stands p c b m
-first_stands p c a b f m l h fresh s t config items = step_stands {a = at_poll c a f} {b = at_poll c b m} h
-    (has_begun p c a b f m l fresh s t config items)
+    → Stands p d b m
+first_stands p c d a b f m told l h fresh s t config items = step_stands {a = at_poll c a f} {b = at_poll d b m} h
+    (has_begun p c d a b f m told l fresh s t config items)
 
 -- there was no memory for the first line
-pub cut_first : {a m b : SeenOnBoth} → OwnStateSeen a.who a.who a.jobs m.jobs own.MayRun → m.channels ≡ a.channels → m.who ≡ a.who
-    → m.items ≡ a.items → CutShort m b → CutShort a b
-cut_first {a} {m} {b} s same t items cut = record {
+pub cut_first : {a m b : SeenOnBoth} → OwnStateSeen a.who a.who a.jobs m.jobs own.MayRun → IsToldOfJobs a.who a.channels m.channels m.jobs
+    → m.who ≡ a.who → m.items ≡ a.items → CutShort m b → CutShort a b
+cut_first {a} {m} {b} s told t items cut = record {
   who = cut.who ∙ t;
   group = cut.group;
   rows = cut.rows;
   appended = cut.appended ∙ ap (λ l. l ++ cut.group) items;
-  channels = subst (λ c. AddedToChannels a.who (channel_acts_in cut.group) c b.channels) same
+  channels = spans.added_then a.who [] (channel_acts_in cut.group) a.channels m.channels b.channels
+      (spans.added_looked a.who a.channels m.channels told.looked)
       (subst (λ k. AddedToChannels k (channel_acts_in cut.group) m.channels b.channels) t cut.channels);
   jobs = added_then a.who [] (job_acts_in cut.group) [] cut.rows a.jobs m.jobs b.jobs (added_looked a.who [] a.jobs m.jobs s.looked)
       (subst (λ k. Added k (job_acts_in cut.group) cut.rows m.jobs b.jobs) t cut.jobs);

@@ -5,6 +5,7 @@ use mathlib.Core.List.{IsPrefix}
 use Rattle.co_base.specs.declared.names.WaitId.{WaitId}
 use Rattle.channel_model.specs.declared.acts.Act.{Act}
 use Rattle.channel_model.specs.Floors.{Floor as ChannelFloor}
+use Rattle.channel_model.proofs.Spans as spans
 use Rattle.job_model.specs.declared.acts.Cause.{Cause}
 use Rattle.job_model.specs.declared.acts.Cause.TheVariants as because
 use Rattle.job_model.specs.declared.acts.End.{End}
@@ -58,6 +59,7 @@ use Rattle.script_meaning.proofs.GroupNotes.{AllPass, all_as, all_then, plain_al
 use Rattle.poll_states.specs.declared.entered.OpenScope.{OpenScope}
 use Rattle.poll_states.specs.Frames.{Frame, config_of, items_of, Stands, seen_at, jobs_at, channels_at, SeenAtPoll, at_poll, both_of, StandsAt}
 use Rattle.poll_states.specs.Steps.{HasBody, Stepped}
+use Rattle.call_meaning.specs.Orders.{IsToldOfJobs}
 use Rattle.poll_states.specs.Named.{answer_of_joined, after_named}
 use Rattle.poll_states.specs.SeenEnds.{after_job, AfterDone, GoesOutside, LeavesEnded, IsInScope, IsScopeTop, EndsAndReceives, BreaksAndReceives, HasSeen, NotYetSeen}
 use Rattle.poll_states.proofs.Standing.{stands_knows, stands_body}
@@ -65,7 +67,7 @@ use Rattle.script_meaning.proofs.GentleNotes.{attach_mild}
 use Rattle.poll_states.proofs.JobLines.{never_told_over}
 use Rattle.poll_states.proofs.DonesLeft.{unclosed_kept}
 use Rattle.poll_states.proofs.QuietNotes.{is_quiet, quiet_allows, quiet_ends, quiet_rows, quiet_refused}
-use Rattle.poll_states.proofs.Stepping.{as_frame, told_at, uncalled, no_wait, known_of, jobs_noted, mild_step}
+use Rattle.poll_states.proofs.Stepping.{as_frame, told_at, no_wait, known_of, jobs_noted, mild_step}
 
 -- ---- a move of which nothing is noted that attaches or refuses
 
@@ -297,7 +299,8 @@ scope_reason p c j f s failure l h e inside =
 -- ---- a scope is entered
 
 -- the note of a refusal, where no row is left
-pub enter_refused : (p : Program) (c d : ChannelFloor) (j j' : Floor) (f g : Frame) (supervisor : Bool) (w : ℕ) (mid : List Item) → d ≡ c
+pub enter_refused : (p : Program) (c d : ChannelFloor) (j j' : Floor) (f g : Frame) (supervisor : Bool) (w : ℕ) (mid : List Item)
+    → IsToldOfJobs f.tag c d j'
     → Legal j'.shape j'.seen → IsAt p f.tag (config_of f) (line.Scope supervisor)
     → NoneLeft j' × ToldOnJobs [] (jobs_at j f) (record { who = w; floor = j'; items = mid }) (knew known.NoRow ∷ []) → g.tag ≡ f.tag
     → config_of g ≡ at_stage (Unwinding (Some f.tag)) (config_of f) → items_of g ≡ mid → Stepped p (at_poll c j f) (at_poll d j' g)
@@ -316,13 +319,13 @@ enter_refused p c d j j' f g supervisor w mid e l at none t config items =
             λ k. absurd (let u : ⊥ = cc in u);
         none_ended = refl;
       };
-      dones = unclosed_kept f.tag (base_of p) [] [] [] (seen_at c j f) (seen_at d j' g) _ l (uncalled f.tag c d e) refl noted.added
-          (tt, tt);
+      dones = unclosed_kept f.tag (base_of p) [] [] [] (seen_at c j f) (seen_at d j' g) _ l (spans.added_looked f.tag c d e.looked)
+          refl noted.added (tt, tt);
       stood = λ w k. no_wait g _ w config refl k;
     }
 
 pub has_entered : (p : Program) {a : SeenAtPoll} {d : ChannelFloor} {m : SeenOnJobs} {g : Frame} {parent : ℕ} {supervisor : Bool}
-    {scope : Attached} {head : ℕ} → d ≡ a.channels → Legal m.floor.shape m.floor.seen
+    {scope : Attached} {head : ℕ} → IsToldOfJobs a.frame.tag a.channels d m.floor → Legal m.floor.shape m.floor.seen
     → IsAt p a.frame.tag (config_of a.frame) (line.Scope supervisor) → parent ≡ innermost a.frame.tag (config_of a.frame)
     → head ≡ a.frame.line → HasEntered parent supervisor (jobs_at a.jobs a.frame) m scope → g.tag ≡ a.frame.tag
     → config_of g ≡ into (in_scope head scope.row) (config_of a.frame) → items_of g ≡ m.items → Stepped p a (at_poll d m.floor g)
@@ -378,22 +381,23 @@ saw_cause p c j j' f row cause w i' l h told =
     sound_cause (replay so.0.jobs row) cause ((replay_families j'.shape so.0.jobs
     (Legal-prefix j'.shape so.0.jobs before.0 (rw before.1 l))).rows row) so.1.holds
 
-saw_kept : (p : Program) (c d : ChannelFloor) (j j' : Floor) (f g : Frame) (row : ℕ) (end : End) → d ≡ c → Legal j'.shape j'.seen
+saw_kept : (p : Program) (c d : ChannelFloor) (j j' : Floor) (f g : Frame) (row : ℕ) (end : End) → IsToldOfJobs f.tag c d j'
+    → Legal j'.shape j'.seen
     → ToldOnJobs [] (jobs_at j f) (jobs_at j' g) (saw_end row end ∷ [])
     → KeepsDones (base_of p) (seen_at c j f) (seen_at d j' g) (items_in (saw_end row end ∷ []))
 unfolding items_in
 saw_kept p c d j j' f g row end e l noted = unclosed_kept f.tag (base_of p) [] [] [] (seen_at c j f) (seen_at d j' g) _ l
-    (uncalled f.tag c d e) refl noted.added (tt, tt)
+    (spans.added_looked f.tag c d e.looked) refl noted.added (tt, tt)
 
 -- what seeing an end tells leaves a coroutine here
-saw_step : (p : Program) (c d : ChannelFloor) (j j' : Floor) (f g : Frame) (row : ℕ) (end : End) (y : Config) → d ≡ c
+saw_step : (p : Program) (c d : ChannelFloor) (j j' : Floor) (f g : Frame) (row : ℕ) (end : End) (y : Config) → IsToldOfJobs f.tag c d j'
     → Legal j'.shape j'.seen → Move p f.tag (config_of f) (saw_end row end ∷ []) y
     → ToldOnJobs [] (jobs_at j f) (jobs_at j' g) (saw_end row end ∷ []) → wait_of y.stage ≡ None → is_over y.stage ≡ false → g.tag ≡ f.tag
     → config_of g ≡ y
     → HasSeen p (at_poll c j f) (at_poll d j' g)
 unfolding quiet_step
 saw_step p c d j j' f g row end y e l move noted none over t config = record {
-  step = quiet_step p c d j j' f g (saw_end row end ∷ []) y move (both_jobs (uncalled f.tag c d e) noted)
+  step = quiet_step p c d j j' f g (saw_end row end ∷ []) y move (both_jobs (spans.added_looked f.tag c d e.looked) e.told noted)
       (saw_kept p c d j j' f g row end e l noted) (saw_end_all is_quiet quiet_allows row end) t config
       (λ w k. no_more_wait w (sym none ∙ k));
   row = row;
@@ -403,7 +407,8 @@ saw_step p c d j j' f g row end y e l move noted none over t config = record {
       in no_way;
 }
 
-pub saw_job : (p : Program) (a : SeenAtPoll) (d : ChannelFloor) (m : SeenOnJobs) (g : Frame) (row : ℕ) (end : End) → d ≡ a.channels
+pub saw_job : (p : Program) (a : SeenAtPoll) (d : ChannelFloor) (m : SeenOnJobs) (g : Frame) (row : ℕ) (end : End)
+    → IsToldOfJobs a.frame.tag a.channels d m.floor
     → Legal m.floor.shape m.floor.seen → StandsAt p a → a.frame.stage ≡ SeesJob → HasToSee p a.frame.tag (config_of a.frame) row
     → ToldOnJobs [] (jobs_at a.jobs a.frame) m (saw_end row end ∷ []) → g.tag ≡ a.frame.tag
     → config_of g ≡ after_job end (config_of a.frame) → items_of g ≡ m.items → HasSeen p a (at_poll d m.floor g)
@@ -430,7 +435,7 @@ saw_job p a d m g row end e l h at (HasToSee.job job _ k line_is names) noted t 
         say (ended.Cancelled (because.Failure q)) _ (AfterAwait.failed q) refl refl is told
 
 pub saw_scope : (p : Program) (a : SeenAtPoll) (d : ChannelFloor) (m : SeenOnJobs) (g : Frame) (scope : OpenScope) (end : End)
-    → d ≡ a.channels → Legal m.floor.shape m.floor.seen → StandsAt p a → a.frame.stage ≡ SeesScope
+    → IsToldOfJobs a.frame.tag a.channels d m.floor → Legal m.floor.shape m.floor.seen → StandsAt p a → a.frame.stage ≡ SeesScope
     → IsInScope (config_of a.frame) scope → ToldOnJobs [] (jobs_at a.jobs a.frame) m (saw_end scope.row end ∷ [])
     → g.tag ≡ a.frame.tag → LeavesEnded p a.frame.tag scope.head end (config_of a.frame) (config_of g) → items_of g ≡ m.items
     → HasSeen p a (at_poll d m.floor g)
@@ -489,7 +494,8 @@ not_yet_seen {p} {a} {b} {w} {row} e has told at t config = record {
 
 -- no row was left for a scope; the other refusal never comes
 pub enter_refused_by : (p : Program) (a : SeenAtPoll) (d : ChannelFloor) (m : SeenOnJobs) (g : Frame) (parent : ℕ) (supervisor : Bool)
-    (error : LaunchError) → (error ≡ launch.NoRow) ⊎ (error ≡ launch.ParentEnded) → d ≡ a.channels → Legal a.jobs.shape a.jobs.seen
+    (error : LaunchError) → (error ≡ launch.NoRow) ⊎ (error ≡ launch.ParentEnded)
+    → IsToldOfJobs a.frame.tag a.channels d m.floor → Legal a.jobs.shape a.jobs.seen
     → Legal m.floor.shape m.floor.seen → StandsAt p a → IsAt p a.frame.tag (config_of a.frame) (line.Scope supervisor)
     → parent ≡ innermost a.frame.tag (config_of a.frame) → EnterAnswer parent supervisor (jobs_at a.jobs a.frame) m (Err error)
     → g.tag ≡ a.frame.tag → config_of g ≡ at_stage (Unwinding (Some a.frame.tag)) (config_of a.frame) → items_of g ≡ m.items

@@ -15,6 +15,7 @@ use Rattle.script_meaning.specs.Configs.{Config, at_stage}
 use Rattle.poll_states.specs.declared.answers.Answer.{Answer}
 use Rattle.poll_states.specs.declared.answers.Answer.TheVariants as came
 use Rattle.poll_states.specs.Calls.{after_call}
+use Rattle.call_meaning.specs.Orders.{IsToldOfJobs}
 use Rattle.poll_states.specs.Steps.{CutShort}
 
 -- what a join or an await came to, unless the innermost Job was seen Cancelling
@@ -24,15 +25,15 @@ answer_of_joined (joined.Waits w) = Some (came.Waits w)
 answer_of_joined joined.Cancelled = None
 answer_of_joined joined.Spent = Some came.NoPlace
 
--- the Job was started, if it was New, and no channel was called
+-- the Job was started, if it was New, and the channels were told
 pub record HasStarted (row : ℕ) (old new : SeenOnBoth) : Type 0 where
-  pub uncalled : new.channels ≡ old.channels
+  pub heard : IsToldOfJobs old.who old.channels new.channels new.jobs
   pub now : Bool
   pub noted : ToldOnJobs [] (jobs_of old) (jobs_of new) (start_told now row)
 
--- the Job was cancelled with all below it, and no channel was called
+-- the Job was cancelled with all below it, and the channels were told
 pub record HasCancelled (row : ℕ) (old new : SeenOnBoth) : Type 0 where
-  pub uncalled : new.channels ≡ old.channels
+  pub heard : IsToldOfJobs old.who old.channels new.channels new.jobs
   pub count : ℕ
   pub all : CancelledAll row (jobs_of old) (jobs_of new) count
 

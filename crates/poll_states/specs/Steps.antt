@@ -45,6 +45,8 @@ use Rattle.script_meaning.specs.Idle.{IsNotStarted}
 use Rattle.script_meaning.specs.Polls.{RefusedByClaims, Begun, Polled, TurnAnswer, HasStood, own_rows, is_seeing}
 use Rattle.poll_states.specs.declared.jobs.OwnState.{OwnState}
 use Rattle.poll_states.specs.declared.jobs.OwnState.TheVariants as own
+use Rattle.call_meaning.specs.Orders.{IsToldOfJobs}
+use Rattle.poll_states.specs.Heard.{HasHeardOf}
 use Rattle.poll_states.specs.Frames.{Frame, config_of, items_of, frame_of, seen_at, SeenAtPoll, both_of, Stands}
 
 -- ---- one move
@@ -105,6 +107,16 @@ IsSeenSo who w old new false = HasStood old new w
 pub record SeenWait (who : ℕ) (w : WaitId) (old new : ChannelFloor) (resolved : Bool) : Type 0 where
   pub looked : LookedAtChannels who old new
   pub so : IsSeenSo who w old new resolved
+
+-- the wait was looked at, and then the Job of this row; each floor heard what was seen on the other
+pub record SeenBoth (who : ℕ) (w : WaitId) (row : ℕ) (c c' : ChannelFloor) (j j' : Floor) (resolved : Bool) (state : OwnState) : Type 0
+  where
+    pub channels : ChannelFloor
+    pub jobs : Floor
+    pub wait : SeenWait who w c channels resolved
+    pub heard : HasHeardOf who channels j jobs
+    pub job : OwnStateSeen who row jobs j' state
+    pub told : IsToldOfJobs who channels c' j'
 
 -- the wait was settled as it was resolved, and the coroutine goes on as that says for its line
 pub record EndedWait (p : Program) (w : WaitId) (old new : SeenOnChannels) (f g : Frame) : Type 0 where

@@ -11,10 +11,10 @@ ghost use Rattle.poll_states.specs.Calls.{does_call, element_of, channel_in, Mad
 use crate::answers::Answer;
 use crate::coroutine::Coroutine;
 use crate::floors::{Floors, caller};
+use call_meaning::JobsBeside;
 use channel_calls::Caller;
 use channel_model::ChannelFloor;
 use co_base::{Gate, Memory, Value, Wakes};
-use job_model::JobFloor;
 use note_book::NoteBook;
 use script_reader::{Instruction, Script};
 
@@ -80,7 +80,7 @@ fn make<B: NoteBook, F: ChannelFloor, W: Wakes>(
 
 /// Makes the call of a line on a channel, and goes on by what it came to.
 #[inline(always)]
-pub(crate) fn call<B: NoteBook, C: ChannelFloor, J: JobFloor, W: Wakes, G: Gate>(
+pub(crate) fn call<B: NoteBook, C: ChannelFloor, J: JobsBeside<C>, W: Wakes, G: Gate>(
     script: &Script,
     frame: &mut Coroutine<B>,
     floors: &mut Floors<'_, '_, '_, C, J, W>,
@@ -105,6 +105,7 @@ pub(crate) fn call<B: NoteBook, C: ChannelFloor, J: JobFloor, W: Wakes, G: Gate>
     match answer {
         Ok(answer) => {
             frame.go_on(script, line, answer);
+            floors.hear();
             Ok(())
         }
         Err(memory) => Err(memory),

@@ -11,6 +11,7 @@ ghost use Rattle.poll_states.specs.Steps.{HasBody, OwnStateSeen, IsAtEnd, StepAn
 
 use crate::coroutine::Coroutine;
 use crate::floors::{Floors, builder};
+use call_meaning::JobsBeside;
 use channel_model::ChannelFloor;
 use co_base::{Gate, Memory, Row, Tag, Wakes};
 use job_model::{JobFloor, JobState};
@@ -46,7 +47,7 @@ pub(crate) fn own_state<J: JobFloor>(who: Tag, row: Row, jobs: &mut J) -> OwnSta
 }
 
 /// Looks whether the innermost Job is Cancelling.
-pub(crate) fn look_up<B: NoteBook, C: ChannelFloor, J: JobFloor, W: Wakes, G: Gate>(
+pub(crate) fn look_up<B: NoteBook, C: ChannelFloor, J: JobsBeside<C>, W: Wakes, G: Gate>(
     script: &Script,
     frame: &mut Coroutine<B>,
     floors: &mut Floors<'_, '_, '_, C, J, W>,
@@ -69,10 +70,12 @@ pub(crate) fn look_up<B: NoteBook, C: ChannelFloor, J: JobFloor, W: Wakes, G: Ga
         OwnState::NotStarted => unreachable!(),
         OwnState::Cancelling => {
             frame.see_cancelling(row);
+            floors.tell();
             Ok(())
         }
         OwnState::MayRun => {
             frame.next_line();
+            floors.tell();
             Ok(())
         }
     }
@@ -90,7 +93,7 @@ fn is_lazy(how: Launching) -> bool
 
 /// Attaches the Job of the next tag under the innermost Job, which runs an instance of the block, and gives it its name. A refusal breaks
 /// the body off.
-pub(crate) fn launch<B: NoteBook, C: ChannelFloor, J: JobFloor, W: Wakes, G: Gate>(
+pub(crate) fn launch<B: NoteBook, C: ChannelFloor, J: JobsBeside<C>, W: Wakes, G: Gate>(
     script: &Script,
     frame: &mut Coroutine<B>,
     floors: &mut Floors<'_, '_, '_, C, J, W>,
@@ -118,12 +121,14 @@ pub(crate) fn launch<B: NoteBook, C: ChannelFloor, J: JobFloor, W: Wakes, G: Gat
     match answer {
         Ok(_) => {
             frame.skip_launched(job, size);
+            floors.tell();
             Ok(())
         }
         Err(error) => match error {
             LaunchError::NoRow => unreachable!(),
             LaunchError::Used | LaunchError::ParentEnded => {
                 frame.fail();
+                floors.tell();
                 Ok(())
             }
             LaunchError::Memory => Err(Memory),
@@ -132,7 +137,7 @@ pub(crate) fn launch<B: NoteBook, C: ChannelFloor, J: JobFloor, W: Wakes, G: Gat
 }
 
 /// Ends the body if no line is left.
-pub(crate) fn end_body<B: NoteBook, C: ChannelFloor, J: JobFloor, W: Wakes>(
+pub(crate) fn end_body<B: NoteBook, C: ChannelFloor, J: JobsBeside<C>, W: Wakes>(
     script: &Script,
     frame: &mut Coroutine<B>,
     floors: &mut Floors<'_, '_, '_, C, J, W>,
@@ -154,7 +159,7 @@ pub(crate) fn end_body<B: NoteBook, C: ChannelFloor, J: JobFloor, W: Wakes>(
 }
 
 /// Breaks the body off if no scope is open, by the failure of a row or as cancelled.
-pub(crate) fn break_off<B: NoteBook, C: ChannelFloor, J: JobFloor, W: Wakes>(
+pub(crate) fn break_off<B: NoteBook, C: ChannelFloor, J: JobsBeside<C>, W: Wakes>(
     script: &Script,
     frame: &mut Coroutine<B>,
     floors: &mut Floors<'_, '_, '_, C, J, W>,

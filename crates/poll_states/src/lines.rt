@@ -15,15 +15,16 @@ use crate::loops::repeat;
 use crate::named::call_named;
 use crate::scopes::{end_line, enter_scope};
 use crate::selects::select;
+use call_meaning::JobsBeside;
 use channel_model::ChannelFloor;
 use co_base::{Gate, Memory, Value, Wakes};
-use job_model::{JobFloor, JobNote};
+use job_model::JobNote;
 use note_book::{Item, NoteBook};
 use script_reader::{Instruction, Operand, Script};
 
 /// Runs the line of a coroutine, or ends its body if none is left.
 #[inline(always)]
-pub(crate) fn run<B: NoteBook, C: ChannelFloor, J: JobFloor, W: Wakes, G: Gate>(
+pub(crate) fn run<B: NoteBook, C: ChannelFloor, J: JobsBeside<C>, W: Wakes, G: Gate>(
     script: &Script,
     frame: &mut Coroutine<B>,
     floors: &mut Floors<'_, '_, '_, C, J, W>,
@@ -46,7 +47,7 @@ pub(crate) fn run<B: NoteBook, C: ChannelFloor, J: JobFloor, W: Wakes, G: Gate>(
 
 /// Runs this line.
 #[inline(always)]
-fn run_line<B: NoteBook, C: ChannelFloor, J: JobFloor, W: Wakes, G: Gate>(
+fn run_line<B: NoteBook, C: ChannelFloor, J: JobsBeside<C>, W: Wakes, G: Gate>(
     script: &Script,
     frame: &mut Coroutine<B>,
     floors: &mut Floors<'_, '_, '_, C, J, W>,
@@ -90,7 +91,7 @@ fn run_line<B: NoteBook, C: ChannelFloor, J: JobFloor, W: Wakes, G: Gate>(
 }
 
 /// Breaks the body off by its own failure.
-fn fail<B: NoteBook, C: ChannelFloor, J: JobFloor, W: Wakes>(
+fn fail<B: NoteBook, C: ChannelFloor, J: JobsBeside<C>, W: Wakes>(
     script: &Script,
     frame: &mut Coroutine<B>,
     floors: &mut Floors<'_, '_, '_, C, J, W>,
@@ -111,7 +112,7 @@ fn fail<B: NoteBook, C: ChannelFloor, J: JobFloor, W: Wakes>(
 }
 
 /// Sets what the Job will have as its result.
-fn set_result<B: NoteBook, C: ChannelFloor, J: JobFloor, W: Wakes>(
+fn set_result<B: NoteBook, C: ChannelFloor, J: JobsBeside<C>, W: Wakes>(
     script: &Script,
     frame: &mut Coroutine<B>,
     floors: &mut Floors<'_, '_, '_, C, J, W>,

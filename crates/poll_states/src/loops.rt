@@ -8,14 +8,14 @@ ghost use Rattle.poll_states.specs.SeenEnds.{EndsNoScope};
 use crate::coroutine::Coroutine;
 use crate::entered::Entered;
 use crate::floors::Floors;
+use call_meaning::JobsBeside;
 use channel_model::ChannelFloor;
 use co_base::{Memory, Wakes};
-use job_model::JobFloor;
 use note_book::NoteBook;
 use script_reader::Script;
 
 /// Enters a repeat of so many turns.
-pub(crate) fn repeat<B: NoteBook, C: ChannelFloor, J: JobFloor, W: Wakes>(
+pub(crate) fn repeat<B: NoteBook, C: ChannelFloor, J: JobsBeside<C>, W: Wakes>(
     script: &Script,
     frame: &mut Coroutine<B>,
     floors: &mut Floors<'_, '_, '_, C, J, W>,
@@ -38,7 +38,7 @@ pub(crate) fn repeat<B: NoteBook, C: ChannelFloor, J: JobFloor, W: Wakes>(
 }
 
 /// Ends a turn of what it entered last: goes on with the next one, or after it.
-pub(crate) fn end_turn<B: NoteBook, C: ChannelFloor, J: JobFloor, W: Wakes>(
+pub(crate) fn end_turn<B: NoteBook, C: ChannelFloor, J: JobsBeside<C>, W: Wakes>(
     script: &Script,
     frame: &mut Coroutine<B>,
     floors: &mut Floors<'_, '_, '_, C, J, W>,

@@ -7,21 +7,37 @@ ghost use Rattle.scope_builders.specs.Calls.{SameBuilder, seen as seen_by_builde
 ghost use Rattle.script_grammar.specs.Blocks.{job_used};
 ghost use Rattle.poll_states.specs.Frames.{SameFloors, seen, IsStanding, IsAtLine};
 ghost use Rattle.poll_states.specs.Steps.{StepAnswer};
+ghost use Rattle.call_meaning.specs.Orders.{IsToldOfJobs};
 ghost use Rattle.poll_states.specs.Named.{NamedAnswer};
 
 use crate::answers::Answer;
 use crate::coroutine::Coroutine;
 use crate::floors::{Floors, builder};
+use call_meaning::JobsBeside;
 use channel_model::ChannelFloor;
 use co_base::{Gate, Memory, Row, Wakes};
-use job_model::JobFloor;
 use note_book::NoteBook;
 use scope_builders::Builder;
 use script_reader::{Instruction, Script};
 
+/// The channels hear what was seen on the Jobs.
+fn tell<B: NoteBook, C: ChannelFloor, J: JobsBeside<C>, W: Wakes>(
+    builder: &mut Builder<'_, '_, '_, '_, C, J, B, W>,
+)
+    ensures same { SameBuilder C.anchor J.anchor builder.old builder.new }
+    ensures told { (C.view builder.old.channels.now).callers builder.old.who ≡ true
+        → IsToldOfJobs builder.old.who (C.view builder.old.channels.now) (C.view builder.new.channels.now) (J.view builder.old.jobs.now) }
+    ensures jobs { J.view builder.new.jobs.now ≡ J.view builder.old.jobs.now }
+    ensures book { builder.new.book.now ≡ builder.old.book.now }
+    ensures wakes { builder.new.wakes.now ≡ builder.old.wakes.now }
+{
+    let jobs = &mut *builder.jobs;
+    jobs.tell(&mut *builder.channels);
+}
+
 /// Makes the call of a line on the Job of this row, whose caller's innermost Job has the row `own`. None says that this was seen
 /// Cancelling.
-fn make<B: NoteBook, C: ChannelFloor, J: JobFloor, W: Wakes, G: Gate>(
+fn make<B: NoteBook, C: ChannelFloor, J: JobsBeside<C>, W: Wakes, G: Gate>(
     builder: &mut Builder<'_, '_, '_, '_, C, J, B, W>,
     gate: &G,
     line: Instruction,
@@ -38,7 +54,10 @@ fn make<B: NoteBook, C: ChannelFloor, J: JobFloor, W: Wakes, G: Gate>(
 {
     match line {
         Instruction::Start { .. } => match builder.start(row) {
-            Ok(_) => Ok(Some(Answer::Done)),
+            Ok(_) => {
+                tell(builder);
+                Ok(Some(Answer::Done))
+            }
             Err(memory) => Err(memory),
         },
         Instruction::Cancel { .. } => {
@@ -46,7 +65,10 @@ fn make<B: NoteBook, C: ChannelFloor, J: JobFloor, W: Wakes, G: Gate>(
             let answer = builder.cancel(row);
             gate.pass(builder.who, 7);
             match answer {
-                Ok(_) => Ok(Some(Answer::Done)),
+                Ok(_) => {
+                    tell(builder);
+                    Ok(Some(Answer::Done))
+                }
                 Err(memory) => Err(memory),
             }
         }
@@ -63,7 +85,7 @@ fn make<B: NoteBook, C: ChannelFloor, J: JobFloor, W: Wakes, G: Gate>(
 }
 
 /// Makes the call of a line on the Job that has this name, and goes on by what it came to.
-pub(crate) fn call_named<B: NoteBook, C: ChannelFloor, J: JobFloor, W: Wakes, G: Gate>(
+pub(crate) fn call_named<B: NoteBook, C: ChannelFloor, J: JobsBeside<C>, W: Wakes, G: Gate>(
     script: &Script,
     frame: &mut Coroutine<B>,
     floors: &mut Floors<'_, '_, '_, C, J, W>,

@@ -15,10 +15,10 @@ use crate::jobs::{OwnState, break_off, own_state};
 use crate::lines::run;
 use crate::scopes::{break_scope, end_scope_wait};
 use crate::seen_ends::see_end;
-use crate::waits::{end_wait, give_up, was_resolved};
+use crate::waits::{end_wait, give_up, look_at_both, was_resolved};
+use call_meaning::JobsBeside;
 use channel_model::ChannelFloor;
 use co_base::{Gate, Memory, Row, WaitId, Wakes};
-use job_model::JobFloor;
 use note_book::NoteBook;
 use script_meaning::{Stage, Turn};
 use script_reader::Script;
@@ -29,7 +29,7 @@ use script_reader::Script;
 /// On want of memory the entries made so far stand and are noted, and the frame may only be turned into its book or dropped. The gate is
 /// passed at the points 1 (the poll begins), 2 and 3 (before the line's first call and after its last), 4 and 5 (a wait was seen
 /// resolved, and before it is settled), 6 and 7 (before and after the pass of a `cancel` line) and 8 (the poll ends).
-pub fn poll<B: Book, C: ChannelFloor, J: JobFloor, W: Wakes, G: Gate>(
+pub fn poll<B: Book, C: ChannelFloor, J: JobsBeside<C>, W: Wakes, G: Gate>(
     script: &Script,
     frame: &mut Frame<B>,
     floors: &mut Floors<'_, '_, '_, C, J, W>,
@@ -47,7 +47,7 @@ pub fn poll<B: Book, C: ChannelFloor, J: JobFloor, W: Wakes, G: Gate>(
 }
 
 /// A poll from its first gate to its last.
-fn gated_turn<B: NoteBook, C: ChannelFloor, J: JobFloor, W: Wakes, G: Gate>(
+fn gated_turn<B: NoteBook, C: ChannelFloor, J: JobsBeside<C>, W: Wakes, G: Gate>(
     script: &Script,
     frame: &mut Coroutine<B>,
     floors: &mut Floors<'_, '_, '_, C, J, W>,
@@ -72,7 +72,7 @@ fn gated_turn<B: NoteBook, C: ChannelFloor, J: JobFloor, W: Wakes, G: Gate>(
 }
 
 /// A poll between its first gate and its last.
-fn turn_of<B: NoteBook, C: ChannelFloor, J: JobFloor, W: Wakes, G: Gate>(
+fn turn_of<B: NoteBook, C: ChannelFloor, J: JobsBeside<C>, W: Wakes, G: Gate>(
     script: &Script,
     frame: &mut Coroutine<B>,
     floors: &mut Floors<'_, '_, '_, C, J, W>,
@@ -101,7 +101,7 @@ fn turn_of<B: NoteBook, C: ChannelFloor, J: JobFloor, W: Wakes, G: Gate>(
 }
 
 /// Begins, if the own Job may run, with the first line.
-fn first_turn<B: NoteBook, C: ChannelFloor, J: JobFloor, W: Wakes, G: Gate>(
+fn first_turn<B: NoteBook, C: ChannelFloor, J: JobsBeside<C>, W: Wakes, G: Gate>(
     script: &Script,
     frame: &mut Coroutine<B>,
     floors: &mut Floors<'_, '_, '_, C, J, W>,
@@ -121,10 +121,12 @@ fn first_turn<B: NoteBook, C: ChannelFloor, J: JobFloor, W: Wakes, G: Gate>(
         OwnState::NotStarted => Ok(Turn::Waits),
         OwnState::Cancelling => {
             frame.see_cancelling(frame.tag);
+            floors.tell();
             Ok(Turn::Ready)
         }
         OwnState::MayRun => {
             frame.stage = Stage::Running;
+            floors.tell();
             match run(script, frame, floors, gate) {
                 Ok(()) => go_on(script, frame, floors),
                 Err(memory) => Err(memory),
@@ -134,7 +136,7 @@ fn first_turn<B: NoteBook, C: ChannelFloor, J: JobFloor, W: Wakes, G: Gate>(
 }
 
 /// What a poll answers after a line. A coroutine that now waits, and whose innermost Job is Cancelling, is to be polled again.
-fn answer<B: NoteBook, C: ChannelFloor, J: JobFloor, W: Wakes>(
+fn answer<B: NoteBook, C: ChannelFloor, J: JobsBeside<C>, W: Wakes>(
     script: &Script,
     frame: &Coroutine<B>,
     floors: &mut Floors<'_, '_, '_, C, J, W>,
@@ -159,7 +161,7 @@ fn answer<B: NoteBook, C: ChannelFloor, J: JobFloor, W: Wakes>(
 }
 
 /// What is done after a line, or after the end of a wait, and answered: an end that is still to be seen is looked for.
-fn go_on<B: NoteBook, C: ChannelFloor, J: JobFloor, W: Wakes>(
+fn go_on<B: NoteBook, C: ChannelFloor, J: JobsBeside<C>, W: Wakes>(
     script: &Script,
     frame: &mut Coroutine<B>,
     floors: &mut Floors<'_, '_, '_, C, J, W>,
@@ -179,7 +181,7 @@ fn go_on<B: NoteBook, C: ChannelFloor, J: JobFloor, W: Wakes>(
 }
 
 /// Ends the wait, if it was resolved or the innermost Job is Cancelling.
-fn wait_turn<B: NoteBook, C: ChannelFloor, J: JobFloor, W: Wakes, G: Gate>(
+fn wait_turn<B: NoteBook, C: ChannelFloor, J: JobsBeside<C>, W: Wakes, G: Gate>(
     script: &Script,
     frame: &mut Coroutine<B>,
     floors: &mut Floors<'_, '_, '_, C, J, W>,
@@ -196,18 +198,24 @@ fn wait_turn<B: NoteBook, C: ChannelFloor, J: JobFloor, W: Wakes, G: Gate>(
     if let Err(memory) = frame.book.room(1) {
         return Err(memory);
     }
-    let resolved = was_resolved(frame.tag, w, &mut *floors.channels, gate);
     let row = frame.innermost();
-    match own_state(frame.tag, row, &mut *floors.jobs) {
+    let (resolved, state) = look_at_both(frame.tag, w, row, floors, gate);
+    match state {
         OwnState::NotStarted => unreachable!(),
         OwnState::Cancelling => match give_up(frame, floors, gate, w, row, resolved) {
-            Ok(()) => Ok(Turn::Ready),
+            Ok(()) => {
+                floors.hear();
+                Ok(Turn::Ready)
+            }
             Err(memory) => Err(memory),
         },
         OwnState::MayRun => {
             if resolved {
                 match end_wait(script, frame, floors, gate, w) {
-                    Ok(()) => go_on(script, frame, floors),
+                    Ok(()) => {
+                        floors.hear();
+                        go_on(script, frame, floors)
+                    }
                     Err(memory) => Err(memory),
                 }
             } else {
@@ -218,7 +226,7 @@ fn wait_turn<B: NoteBook, C: ChannelFloor, J: JobFloor, W: Wakes, G: Gate>(
 }
 
 /// Breaks the body off.
-fn last_turn<B: NoteBook, C: ChannelFloor, J: JobFloor, W: Wakes>(
+fn last_turn<B: NoteBook, C: ChannelFloor, J: JobsBeside<C>, W: Wakes>(
     script: &Script,
     frame: &mut Coroutine<B>,
     floors: &mut Floors<'_, '_, '_, C, J, W>,
@@ -238,7 +246,7 @@ fn last_turn<B: NoteBook, C: ChannelFloor, J: JobFloor, W: Wakes>(
 }
 
 /// Breaks the body of the innermost Job off.
-fn unwind<B: NoteBook, C: ChannelFloor, J: JobFloor, W: Wakes>(
+fn unwind<B: NoteBook, C: ChannelFloor, J: JobsBeside<C>, W: Wakes>(
     script: &Script,
     frame: &mut Coroutine<B>,
     floors: &mut Floors<'_, '_, '_, C, J, W>,
@@ -257,7 +265,7 @@ fn unwind<B: NoteBook, C: ChannelFloor, J: JobFloor, W: Wakes>(
 }
 
 /// Ends a wait at the end of a scope, if it was resolved.
-fn leave_turn<B: NoteBook, C: ChannelFloor, J: JobFloor, W: Wakes, G: Gate>(
+fn leave_turn<B: NoteBook, C: ChannelFloor, J: JobsBeside<C>, W: Wakes, G: Gate>(
     script: &Script,
     frame: &mut Coroutine<B>,
     floors: &mut Floors<'_, '_, '_, C, J, W>,
@@ -273,7 +281,10 @@ fn leave_turn<B: NoteBook, C: ChannelFloor, J: JobFloor, W: Wakes, G: Gate>(
 {
     if was_resolved(frame.tag, w, &mut *floors.channels, gate) {
         match end_scope_wait(frame, floors, gate, w) {
-            Ok(()) => go_on(script, frame, floors),
+            Ok(()) => {
+                floors.hear();
+                go_on(script, frame, floors)
+            }
             Err(memory) => Err(memory),
         }
     } else {
@@ -282,7 +293,7 @@ fn leave_turn<B: NoteBook, C: ChannelFloor, J: JobFloor, W: Wakes, G: Gate>(
 }
 
 /// Sees the end that is still to be seen.
-fn see_turn<B: NoteBook, C: ChannelFloor, J: JobFloor, W: Wakes>(
+fn see_turn<B: NoteBook, C: ChannelFloor, J: JobsBeside<C>, W: Wakes>(
     script: &Script,
     frame: &mut Coroutine<B>,
     floors: &mut Floors<'_, '_, '_, C, J, W>,

@@ -40,9 +40,10 @@ use crate::coroutine::Coroutine;
 use crate::entered::{Entered, OpenScope};
 use crate::floors::{Floors, builder, caller};
 use crate::loops::end_turn;
+use call_meaning::JobsBeside;
 use channel_model::ChannelFloor;
 use co_base::{Gate, Memory, Row, WaitId, Wakes};
-use job_model::{End, JobFloor};
+use job_model::End;
 use note_book::NoteBook;
 use scope_builders::{Builder, Joined, LaunchError};
 use script_meaning::Stage;
@@ -86,7 +87,7 @@ impl<B: NoteBook> Coroutine<B> {
 }
 
 /// Enters a scope: attaches its Job under the innermost Job. A refusal breaks the body off.
-pub(crate) fn enter_scope<B: NoteBook, C: ChannelFloor, J: JobFloor, W: Wakes, G: Gate>(
+pub(crate) fn enter_scope<B: NoteBook, C: ChannelFloor, J: JobsBeside<C>, W: Wakes, G: Gate>(
     script: &Script,
     frame: &mut Coroutine<B>,
     floors: &mut Floors<'_, '_, '_, C, J, W>,
@@ -114,12 +115,14 @@ pub(crate) fn enter_scope<B: NoteBook, C: ChannelFloor, J: JobFloor, W: Wakes, G
                 head,
                 row: scope.row,
             });
+            floors.tell();
             Ok(())
         }
         Err(error) => match error {
             LaunchError::Used => unreachable!(),
             LaunchError::NoRow | LaunchError::ParentEnded => {
                 frame.fail();
+                floors.tell();
                 Ok(())
             }
             LaunchError::Memory => Err(Memory),
@@ -128,7 +131,7 @@ pub(crate) fn enter_scope<B: NoteBook, C: ChannelFloor, J: JobFloor, W: Wakes, G
 }
 
 /// Ends the body of a scope, and receives on its done channel.
-fn end_and_receive<B: NoteBook, C: ChannelFloor, J: JobFloor, W: Wakes>(
+fn end_and_receive<B: NoteBook, C: ChannelFloor, J: JobsBeside<C>, W: Wakes>(
     builder: &mut Builder<'_, '_, '_, '_, C, J, B, W>,
     row: Row,
 ) -> Result<Joined, Memory>
@@ -146,7 +149,7 @@ fn end_and_receive<B: NoteBook, C: ChannelFloor, J: JobFloor, W: Wakes>(
 }
 
 /// Breaks the body of a scope off, and receives on its done channel.
-fn break_and_receive<B: NoteBook, C: ChannelFloor, J: JobFloor, W: Wakes>(
+fn break_and_receive<B: NoteBook, C: ChannelFloor, J: JobsBeside<C>, W: Wakes>(
     builder: &mut Builder<'_, '_, '_, '_, C, J, B, W>,
     row: Row,
     failure: Option<Row>,
@@ -168,7 +171,7 @@ fn break_and_receive<B: NoteBook, C: ChannelFloor, J: JobFloor, W: Wakes>(
 }
 
 /// Ends the body of the scope that it entered last, and waits for the end of the scope.
-pub(crate) fn end_scope<B: NoteBook, C: ChannelFloor, J: JobFloor, W: Wakes, G: Gate>(
+pub(crate) fn end_scope<B: NoteBook, C: ChannelFloor, J: JobsBeside<C>, W: Wakes, G: Gate>(
     script: &Script,
     frame: &mut Coroutine<B>,
     floors: &mut Floors<'_, '_, '_, C, J, W>,
@@ -196,7 +199,7 @@ pub(crate) fn end_scope<B: NoteBook, C: ChannelFloor, J: JobFloor, W: Wakes, G: 
 }
 
 /// Ends what it entered last: the body of a scope, or a turn of a loop.
-pub(crate) fn end_line<B: NoteBook, C: ChannelFloor, J: JobFloor, W: Wakes, G: Gate>(
+pub(crate) fn end_line<B: NoteBook, C: ChannelFloor, J: JobsBeside<C>, W: Wakes, G: Gate>(
     script: &Script,
     frame: &mut Coroutine<B>,
     floors: &mut Floors<'_, '_, '_, C, J, W>,
@@ -219,7 +222,7 @@ pub(crate) fn end_line<B: NoteBook, C: ChannelFloor, J: JobFloor, W: Wakes, G: G
 }
 
 /// Breaks the body of its innermost scope off, by the failure of a row or as cancelled, and waits for the end of the scope.
-pub(crate) fn break_scope<B: NoteBook, C: ChannelFloor, J: JobFloor, W: Wakes>(
+pub(crate) fn break_scope<B: NoteBook, C: ChannelFloor, J: JobsBeside<C>, W: Wakes>(
     script: &Script,
     frame: &mut Coroutine<B>,
     floors: &mut Floors<'_, '_, '_, C, J, W>,
@@ -270,7 +273,7 @@ pub(crate) fn end_scope_wait<B: NoteBook, C: ChannelFloor, J, W: Wakes, G: Gate>
 }
 
 /// Sees how its innermost scope ended, if that has ended, and leaves it.
-pub(crate) fn see_scope<B: NoteBook, C: ChannelFloor, J: JobFloor, W: Wakes>(
+pub(crate) fn see_scope<B: NoteBook, C: ChannelFloor, J: JobsBeside<C>, W: Wakes>(
     script: &Script,
     frame: &mut Coroutine<B>,
     floors: &mut Floors<'_, '_, '_, C, J, W>,
@@ -289,6 +292,7 @@ pub(crate) fn see_scope<B: NoteBook, C: ChannelFloor, J: JobFloor, W: Wakes>(
     match builder.seen_end(scope.row) {
         Ok(Some(end)) => {
             frame.leave_ended(script, scope.head, end);
+            floors.tell();
             Ok(())
         }
         Ok(None) => Ok(()),

@@ -12,9 +12,10 @@ use crate::code::code_of;
 use crate::coroutine::Coroutine;
 use crate::floors::{Floors, builder};
 use crate::scopes::see_scope;
+use call_meaning::JobsBeside;
 use channel_model::ChannelFloor;
 use co_base::{Memory, Row, Wakes};
-use job_model::{End, JobFloor};
+use job_model::End;
 use note_book::NoteBook;
 use script_meaning::Stage;
 use script_reader::{Instruction, Script};
@@ -49,7 +50,7 @@ fn awaited<B: NoteBook>(script: &Script, frame: &Coroutine<B>) -> Row
 }
 
 /// Sees how the Job ended that it awaited, if that has ended.
-fn see_job<B: NoteBook, C: ChannelFloor, J: JobFloor, W: Wakes>(
+fn see_job<B: NoteBook, C: ChannelFloor, J: JobsBeside<C>, W: Wakes>(
     script: &Script,
     frame: &mut Coroutine<B>,
     floors: &mut Floors<'_, '_, '_, C, J, W>,
@@ -66,6 +67,7 @@ fn see_job<B: NoteBook, C: ChannelFloor, J: JobFloor, W: Wakes>(
     match builder.seen_end(row) {
         Ok(Some(end)) => {
             frame.go_on_job_ended(end);
+            floors.tell();
             Ok(())
         }
         Ok(None) => Ok(()),
@@ -74,7 +76,7 @@ fn see_job<B: NoteBook, C: ChannelFloor, J: JobFloor, W: Wakes>(
 }
 
 /// Sees the end that is still to be seen, if that Job has ended, and goes on as it says.
-pub(crate) fn see_end<B: NoteBook, C: ChannelFloor, J: JobFloor, W: Wakes>(
+pub(crate) fn see_end<B: NoteBook, C: ChannelFloor, J: JobsBeside<C>, W: Wakes>(
     script: &Script,
     frame: &mut Coroutine<B>,
     floors: &mut Floors<'_, '_, '_, C, J, W>,

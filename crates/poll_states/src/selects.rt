@@ -14,9 +14,9 @@ use crate::code::code_of;
 use crate::coroutine::Coroutine;
 use crate::floors::{Floors, caller};
 use arrayvec::ArrayVec;
+use call_meaning::JobsBeside;
 use channel_model::ChannelFloor;
 use co_base::{Gate, Memory, WaitId, Wakes};
-use job_model::JobFloor;
 use note_book::NoteBook;
 use script_reader::{Instruction, Script};
 use select_calls::{Clause, Outcome, SelectAnswer, select_poll};
@@ -89,7 +89,7 @@ impl<B: NoteBook> Coroutine<B> {
 }
 
 /// Chooses a clause, or waits on all of them.
-pub(crate) fn select<B: NoteBook, C: ChannelFloor, J: JobFloor, W: Wakes, G: Gate>(
+pub(crate) fn select<B: NoteBook, C: ChannelFloor, J: JobsBeside<C>, W: Wakes, G: Gate>(
     script: &Script,
     frame: &mut Coroutine<B>,
     floors: &mut Floors<'_, '_, '_, C, J, W>,
@@ -113,6 +113,7 @@ pub(crate) fn select<B: NoteBook, C: ChannelFloor, J: JobFloor, W: Wakes, G: Gat
     match answer {
         Ok(answer) => {
             frame.go_on_selected(script, answer, held);
+            floors.hear();
             Ok(())
         }
         Err(memory) => Err(memory),

@@ -9,12 +9,14 @@ ghost use Rattle.script_reader.specs.Scripts.{program_of};
 ghost use Rattle.script_grammar.specs.Tags.{code_of};
 ghost use Rattle.script_meaning.specs.declared.stage.Stage.TheVariants.{Unwinding};
 ghost use Rattle.script_meaning.specs.Configs.{at_stage};
-ghost use Rattle.poll_states.specs.Frames.{config_of, SameLoans, noted, seen_on_channels, IsInRun};
-ghost use Rattle.poll_states.specs.Steps.{SeenWait, EndedWaitAnswer, GaveUpAnswer};
+ghost use Rattle.poll_states.specs.Frames.{config_of, SameFloors, SameLoans, noted, seen_on_channels, IsInRun};
+ghost use Rattle.poll_states.specs.Steps.{HasBody, SeenWait, SeenBoth, EndedWaitAnswer, GaveUpAnswer};
 
 use crate::code::code_of;
 use crate::coroutine::Coroutine;
 use crate::floors::{Floors, caller};
+use crate::jobs::{OwnState, own_state};
+use call_meaning::JobsBeside;
 use channel_model::{ChannelFloor, WaitState};
 use co_base::{Gate, Memory, Row, Tag, WaitId, Wakes};
 use note_book::NoteBook;
@@ -40,6 +42,29 @@ pub(crate) fn was_resolved<C: ChannelFloor, G: Gate>(
         }
         WaitState::Settled => unreachable!(),
     }
+}
+
+/// Looks whether the wait was resolved, and then at the caller's own Job of this row. Each floor hears what was seen on the other.
+pub(crate) fn look_at_both<C: ChannelFloor, J: JobsBeside<C>, W, G: Gate>(
+    who: Tag,
+    w: WaitId,
+    row: Row,
+    floors: &mut Floors<'_, '_, '_, C, J, W>,
+    gate: &G,
+) -> (bool, OwnState)
+    requires can { MayCall who w.channel (C.view floors.old.channels.now) }
+    requires holds { IsUnsettledOf who ((replay (C.view floors.old.channels.now).seen).waits w) }
+    requires body { HasBody who row (J.view floors.old.jobs.now) }
+    ensures seen { SeenBoth who w row (C.view floors.old.channels.now) (C.view floors.new.channels.now)
+        (J.view floors.old.jobs.now) (J.view floors.new.jobs.now) result.0 result.1 }
+    ensures wakes { floors.new.wakes.now ≡ floors.old.wakes.now }
+    ensures same { SameFloors C.anchor J.anchor floors.old floors.new }
+{
+    let resolved = was_resolved(who, w, &mut *floors.channels, gate);
+    floors.hear();
+    let state = own_state(who, row, &mut *floors.jobs);
+    floors.tell();
+    (resolved, state)
 }
 
 /// Ends a wait that was resolved, and goes on as that says for the line that began it.

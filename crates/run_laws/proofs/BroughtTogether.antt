@@ -1,9 +1,9 @@
 -- The floors of all are ended into those of the root, one after the other.
-use Rattle.std.specs.Prelude.{◌≡◌, ◌≢◌, ℕ, ◌+◌, ◌<◌, ◌≤◌, Bool, true, false, ◌||◌, List, [], ◌∷◌, ◌++◌, length, map, Option, refl}
+use Rattle.std.specs.Prelude.{◌≡◌, ◌≢◌, ℕ, ◌<◌, ◌≤◌, Bool, true, false, ◌||◌, List, [], ◌∷◌, ◌++◌, length, map, Option, refl}
 use Rattle.std.specs.List.{All}
 use Rattle.std.proofs.Common.{sym, ap, ◌∙◌, subst, arith}
 use Rattle.std.proofs.lemmas.List.{map-append, length-map}
-use Rattle.std.proofs.lemmas.List.Elements.{All-head, All-tail, All-cons, All-push, All-weaker, All-map}
+use Rattle.std.proofs.lemmas.List.Elements.{All-head, All-tail, All-cons, All-nil, All-push, All-weaker, All-map}
 use mathlib.Core.Logic.{dite}
 use native.Mathlib.Decide.{ℕ_discrete}
 use Rattle.channel_model.specs.Histories.{acts_of, Legal}
@@ -20,9 +20,10 @@ use Rattle.script_meaning.specs.Polls.{Frame}
 use Rattle.run_laws.specs.Sights.{Sight, Keeps, KnowsTags, SawMore, CountUp}
 use Rattle.shared_floors.specs.Meetings.{EndedOnChannels, EndedOnJobs}
 use Rattle.run_laws.specs.LastRounds.{AllRested, HasRested, KnowsAllOf, tags_seen, books_seen}
-use Rattle.run_laws.specs.Ends.{IsBroughtTo, NoOthers, IsSpare, books_in, IsRunAtRest}
+use Rattle.run_laws.specs.Ends.{IsBroughtTo, NoOthers, IsSpare, books_in, IsRunInOneOrderIf}
 use Rattle.run_laws.proofs.Hearing.{rested_still, known_still}
 use Rattle.run_laws.proofs.Prefixes.{prefix_then}
+use Rattle.co_base.proofs.Orders.{order_then}
 use Rattle.run_laws.proofs.RunsEnd.{run_rests}
 
 or_first : (a b : Bool) → a ≡ true → (a || b) ≡ true
@@ -42,7 +43,12 @@ brought_still p c c' b j j' i s calls jobs h = record {
   job_shape = jobs.shape ∙ h.job_shape;
   caller = calls.callers s.frame.tag ∙ or_first (c.callers s.frame.tag) (b.callers s.frame.tag) h.caller;
   job_caller = jobs.callers s.frame.tag ∙ or_first (j.callers s.frame.tag) (i.callers s.frame.tag) h.job_caller;
-  seen = record { channels = prefix_then _ _ _ h.seen.channels calls.longer; jobs = prefix_then _ _ _ h.seen.jobs jobs.longer };
+  seen = record {
+    channels = prefix_then _ _ _ h.seen.channels calls.longer;
+    jobs = prefix_then _ _ _ h.seen.jobs jobs.longer;
+    order = order_then _ _ _ h.seen.order calls.order;
+    job_order = order_then _ _ _ h.seen.job_order jobs.order;
+  };
   same = record { calls = calls.mine s.frame.tag h.caller ∙ h.same.calls; jobs = jobs.mine s.frame.tag h.job_caller ∙ h.same.jobs };
   kept = λ r t e. jobs.kept r t (h.kept r t e);
   claims = λ r. jobs.my_claims s.frame.tag h.job_caller r ∙ h.claims r;
@@ -57,7 +63,7 @@ brought_now p c c' j j' root s calls jobs there kr k = record {
   job_shape = jobs.shape ∙ there.job_shape ∙ kr.stands.jobs ∙ sym k.stands.jobs;
   caller = calls.callers s.frame.tag ∙ or_second (c.callers s.frame.tag) (s.channels.callers s.frame.tag) k.stands.of_channels;
   job_caller = jobs.callers s.frame.tag ∙ or_second (j.callers s.frame.tag) (s.jobs.callers s.frame.tag) k.stands.of_jobs;
-  seen = record { channels = calls.heard; jobs = jobs.heard };
+  seen = record { channels = calls.heard; jobs = jobs.heard; order = calls.heard_order; job_order = jobs.heard_order };
   same = record { calls = calls.theirs s.frame.tag k.stands.of_channels; jobs = jobs.theirs s.frame.tag k.stands.of_jobs };
   kept = λ r t e. jobs.heard_claims r t e;
   claims = λ r. jobs.their_claims s.frame.tag k.stands.of_jobs r;
@@ -83,6 +89,11 @@ module _ {X : Type 0} (at : X → Sight) where
   books_push root x xs notes note e q = ap (λ l. l ++ note ∷ []) e ∙ ap (λ n. books_seen at (root ∷ xs) ++ n ∷ []) q
       ∙ sym (map-append (λ z. (at z).frame.book) (root ∷ xs) (x ∷ []))
 
+  -- what holds of each holds of all
+  all_are : (P : X → Type 0) → ((x : X) → P x) → (xs : List X) → All P xs
+  all_are P h [] = All-nil P
+  all_are P h (x ∷ xs) = All-cons P x xs (h x) (all_are P h xs)
+
   sights : List X → List Sight
   sights xs = map at xs
 
@@ -94,15 +105,15 @@ module _ {X : Type 0} (at : X → Sight) where
   same_books [] = refl
   same_books (x ∷ xs) = ap (λ l. (at x).frame.book ∷ l) (same_books xs)
 
-  -- the run is over
+  -- the run is over; and if the floors of all know one order of both histories, it went along one
   pub run_over : (p : Program) (root0 root1 : X) (others : List X) (c : ChannelFloor) (j : Floor) (end : Option End) → IsProgram p
       → length (root0 ∷ others) ≡ coroutine_count p → CountUp 0 (tags_seen at (root0 ∷ others)) → AllRested at p (root0 ∷ others)
       → SawMore (at root0) (at root1) → AtStep (at root0).jobs (at root1).jobs (λ tree. end_at (tree 0) ≡ end)
       → IsBroughtTo p c j (at root1) → All (λ z. IsBroughtTo p c j (at z)) others → NoOthers p c j → Legal c.shape c.seen
-      → LegalJobs j.shape j.seen → HasClaims j
-      → IsRunAtRest p (books_seen at (root1 ∷ others)) c.seen j.seen end
-  run_over p root0 root1 others c j end ok count tags rested more look root there none legal legal_jobs claims =
-      subst (λ b. IsRunAtRest p b c.seen j.seen end) (same_books (root1 ∷ others))
+      → LegalJobs j.shape j.seen → HasClaims j → (T : Type 0) → (T → (x : X) → (at x).jobs.joint ≡ true)
+      → IsRunInOneOrderIf T p (books_seen at (root1 ∷ others)) c.seen j.seen end
+  run_over p root0 root1 others c j end ok count tags rested more look root there none legal legal_jobs claims T joint =
+      subst (λ b. IsRunInOneOrderIf T p b c.seen j.seen end) (same_books (root1 ∷ others))
       (run_rests p rested.first (map at (root1 ∷ others)) c j end (record {
         ok = ok;
         count = length-map (root1 ∷ others) at ∙ count;
@@ -128,7 +139,7 @@ module _ {X : Type 0} (at : X → Sight) where
           prefix_then _ _ _ look.before root.seen.jobs,
           look.holds,
         );
-      }))
+      }) T (λ t. All-map (λ s. s.jobs.joint ≡ true) at (root1 ∷ others) (all_are (λ z. (at z).jobs.joint ≡ true) (joint t) (root1 ∷ others))))
     where
       tag : (at root1).frame.tag ≡ (at root0).frame.tag
       tag = ap (λ (f : Frame). f.tag) more.frame

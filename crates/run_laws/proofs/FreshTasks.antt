@@ -3,8 +3,10 @@ use Rattle.std.specs.Prelude.{◌≡◌, ◌≢◌, ℕ, ◌<◌, ◌==◌, Bool
 use Rattle.std.specs.List.{list_any}
 use Rattle.std.proofs.Common.{sym, ap, ◌∙◌, subst, arith}
 use Rattle.std.proofs.lemmas.Bool.Decides.{nat_tests}
+use Rattle.std.proofs.lemmas.List.{append-nil}
+use Rattle.co_base.proofs.Orders.{order_same}
 use Rattle.channel_model.specs.Histories.{acts_of}
-use Rattle.channel_model.specs.Floors.{Floor as ChannelFloor}
+use Rattle.channel_model.specs.Floors.{Floor as ChannelFloor, Looked}
 use Rattle.job_model.specs.Trees.{Shape, is_among}
 use Rattle.job_model.specs.Histories.{acts_of as job_acts_of, Legal as LegalJobs}
 use Rattle.job_model.specs.Floors.{Floor, IsFreshFloor, is_claimed_by}
@@ -12,6 +14,7 @@ use Rattle.note_book.specs.Items.{channel_acts_in, job_acts_in}
 use Rattle.call_meaning.specs.Telling.{items_in}
 use Rattle.call_meaning.specs.Stories.{Moment, beginning, IsTrue}
 use Rattle.call_meaning.specs.Calls.{seen_by, rows_in}
+use Rattle.call_meaning.specs.Orders.{HasTold}
 use Rattle.script_grammar.specs.Programs.{Program}
 use Rattle.script_grammar.specs.WellFormed.{IsProgram}
 use Rattle.script_grammar.specs.Tags.{coroutine_count}
@@ -23,6 +26,8 @@ use Rattle.run_laws.specs.Sights.{Keeps}
 use Rattle.run_laws.specs.Starts.{IsUntouched}
 use Rattle.run_laws.proofs.RefusalsTold.{begun_refused}
 use Rattle.run_laws.proofs.Hearing.{sight}
+use Rattle.run_laws.proofs.LaterStands.{OthersWentOn, stands_later}
+use Rattle.run_laws.proofs.PointsGoOn.{fresh_stands_along, begun_stands_along}
 
 -- ---- floors on which nothing was done
 
@@ -103,13 +108,31 @@ keeps_fresh p k f c j lt n tag config book h = record {
     used = λ e. absurd (never (sym (ap (list_any _) book) ∙ e));
     none_ended = ap (list_any _) book;
   };
+  along = λ joint. fresh_stands_along p c j f (λ z. n (sym tag ∙ z)) (config ∙ ap fresh (sym tag)) book;
 }
   where
     never : false ≡ true → ⊥
     never e = cc
 
-pub keeps_begun : (p q : Program) (c : ChannelFloor) (j j' : Floor) (f g : Frame) → q ≡ p → IsProgram q → LegalJobs j'.shape j'.seen
-    → StandsOn q c j' g → Begun q j j' f g → Keeps p (sight g c j')
-keeps_begun p q c j j' f g e ok legal on begun =
-    subst (λ x. Keeps x (sight g c j')) e
-    (record { stands = on; refused = begun_refused q c j j' f g ok (subst (λ z. LegalJobs z j'.seen) on.jobs legal) on begun })
+-- the root has begun, and then its channels were told what was seen of the Jobs
+pub keeps_begun : (p q : Program) (c d : ChannelFloor) (j j' : Floor) (f g : Frame) → q ≡ p → IsProgram q → LegalJobs j'.shape j'.seen
+    → acts_of f.tag c.seen ≡ [] → job_acts_of f.tag j.seen ≡ [] → Looked f.tag c d → (j'.joint ≡ true → HasTold d j')
+    → StandsOn q c j' g → Begun q j j' f g → Keeps p (sight g d j')
+keeps_begun p q c d j j' f g e ok legal none none_jobs look told on begun =
+    subst (λ x. Keeps x (sight g d j')) e
+    (record {
+      stands = stands_later q c d j' j' g others on;
+      refused = begun_refused q c j j' f g ok (subst (λ z. LegalJobs z j'.seen) on.jobs legal) on begun;
+      along = λ joint. begun_stands_along q c d j j' f g none on.channels none_jobs look (told joint) on begun;
+    })
+  where
+    others : OthersWentOn g.tag c d j' j'
+    others = record {
+      channels = look.same;
+      jobs = record { shape = refl; alone = refl; callers = refl; order = order_same j'.order; joint = refl };
+      more_channels = look.longer;
+      more_jobs = ([], append-nil j'.seen);
+      channel_acts = subst (λ k. acts_of k d.seen ≡ acts_of k c.seen) (sym begun.tag) look.mine;
+      job_acts = refl;
+      claims = λ r. refl;
+    }

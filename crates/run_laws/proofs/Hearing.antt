@@ -1,5 +1,6 @@
 -- What a coroutine keeps when it is polled, and when it hears of what others did.
-use Rattle.std.specs.Prelude.{◌≡◌, ◌≢◌, ℕ, ◌+◌, ◌≤◌, Bool, true, false, ◌||◌, [], ◌++◌, length, Option, Some, None, option_map, refl}
+use Rattle.std.specs.Prelude.{◌≡◌, ◌≢◌, ℕ, ◌≤◌, Bool, true, false, ◌||◌, [], ◌++◌, length, Option, Some, None, option_map, refl}
+use Rattle.co_base.proofs.Orders.{order_same, order_then}
 use Rattle.std.proofs.Common.{sym, ap, ◌∙◌, subst, arith, length-append}
 use Rattle.std.proofs.lemmas.List.{append-nil, nil_from_length}
 use mathlib.Core.List.{IsPrefix}
@@ -28,6 +29,7 @@ use Rattle.run_laws.specs.LastRounds.{Rested, KnowsAllOf, HasRested}
 use Rattle.run_laws.specs.Looks.{end_shown, end_looked}
 use Rattle.run_laws.proofs.RefusalsTold.{refused_later, polled_refused}
 use Rattle.run_laws.proofs.Prefixes.{prefix_then}
+use Rattle.run_laws.proofs.PointsGoOn.{stands_along_later, polled_stands_along}
 
 abbrev pub sight : Frame → ChannelFloor → Floor → Sight
 sight f c j = record { frame = f; channels = c; jobs = j }
@@ -39,6 +41,8 @@ pub keeps_later : (p : Program) (f : Frame) (c c' : ChannelFloor) (j j' : Floor)
 keeps_later p f c c' j j' others kept h = record {
   stands = stands_later p c c' j j' f others h.stands;
   refused = refused_later p j j' f kept h.refused;
+  along = λ joint. stands_along_later p c c' j j' f others.channels.order others.jobs.order
+      (record { channels = others.more_channels; jobs = others.more_jobs }) (h.along (sym others.jobs.joint ∙ joint));
 }
 
 -- a meeting is such
@@ -66,7 +70,7 @@ tags_same p t f f' g g' e q h = subst (λ x. KnowsTags p t x g') (sym e) (subst 
 
 looked_others : (who : ℕ) (c : ChannelFloor) (j j' : Floor) → Looked who [] j j' → OthersWentOn who c c j j'
 looked_others who c j j' h = record {
-  channels = record { shape = refl; alone = refl; callers = refl };
+  channels = record { shape = refl; alone = refl; callers = refl; order = order_same _ };
   jobs = h.same;
   more_channels = ([], append-nil c.seen);
   more_jobs = h.longer;
@@ -111,6 +115,9 @@ keeps_polled p q c c' j j' f g e ok legal on polled k =
       stands = on;
       refused = polled_refused q c c' j j' f g ok (subst (λ z. LegalJobs z j'.seen) on.jobs legal) was.stands on polled
           was.refused;
+      along = λ joint.
+          let before : j.joint ≡ true = sym polled.jobs.same.joint ∙ joint in
+          polled_stands_along q c c' j j' f g before (was.along before) polled;
     })
 
 pub rested : (p : Program) (f g : Frame) (c c' : ChannelFloor) (j j' : Floor) (answer : Turn) → (polled : Polled p c c' j j' f g)
@@ -134,12 +141,14 @@ did_nothing p s s' h = record {
       ∙ ap (λ l. job_acts_of s.frame.tag s.jobs.seen ++ job_acts_in l) h.none ∙ append-nil (job_acts_of s.frame.tag s.jobs.seen));
 }
 
-more_same : (s s' : Sight) → IsSeenSame s s' → SawMore s s'
+pub more_same : (s s' : Sight) → IsSeenSame s s' → SawMore s s'
 more_same s s' same = record {
   frame = same.frame;
   within = record {
     channels = subst (λ (x : ChannelFloor). IsPrefix s.channels.seen x.seen) (sym same.channels) ([], append-nil s.channels.seen);
     jobs = subst (λ (x : Floor). IsPrefix s.jobs.seen x.seen) (sym same.jobs) ([], append-nil s.jobs.seen);
+    order = subst (λ (x : ChannelFloor). IsPrefix s.channels.order x.order) (sym same.channels) (order_same s.channels.order);
+    job_order = subst (λ (x : Floor). IsPrefix s.jobs.order x.order) (sym same.jobs) (order_same s.jobs.order);
   };
   same = record {
     calls = ap (λ (x : ChannelFloor). acts_of s.frame.tag x.seen) same.channels;
@@ -147,13 +156,53 @@ more_same s s' same = record {
   };
 }
 
+-- ---- what was seen
+
+pub within_then : (a b c : Sight) → IsWithin a b → IsWithin b c → IsWithin a c
+within_then a b c h g = record {
+  channels = prefix_then _ _ _ h.channels g.channels;
+  jobs = prefix_then _ _ _ h.jobs g.jobs;
+  order = order_then _ _ _ h.order g.order;
+  job_order = order_then _ _ _ h.job_order g.job_order;
+}
+
+pub within_itself : (s : Sight) → IsWithin s s
+within_itself s = record {
+  channels = ([], append-nil s.channels.seen);
+  jobs = ([], append-nil s.jobs.seen);
+  order = order_same s.channels.order;
+  job_order = order_same s.jobs.order;
+}
+
+-- one that met another has seen all that the other has
+pub met_within : (f g : Frame) (a a' b b' : ChannelFloor) (i i' k k' : Floor) → MetOnChannels a a' b b' → MetOnJobs i i' k k'
+    → IsWithin (sight g b k) (sight f a' i')
+met_within f g a a' b b' i i' k k' calls jobs =
+    record { channels = calls.heard; jobs = jobs.heard; order = calls.heard_order; job_order = jobs.heard_order }
+
+-- and more than it had
+pub met_more : (f : Frame) (a a' b b' : ChannelFloor) (i i' k k' : Floor) → a.callers f.tag ≡ true → i.callers f.tag ≡ true
+    → MetOnChannels a a' b b' → MetOnJobs i i' k k' → SawMore (sight f a i) (sight f a' i')
+met_more f a a' b b' i i' k k' ca ja calls jobs = record {
+  frame = refl;
+  within = record { channels = calls.longer; jobs = jobs.longer; order = calls.same.order; job_order = jobs.same.order };
+  same = record { calls = calls.mine f.tag ca; jobs = jobs.mine f.tag ja };
+}
+
+-- and so has one that looked at a Job
+pub looked_more : (f : Frame) (c : ChannelFloor) (j j' : Floor) → Looked f.tag [] j j' → SawMore (sight f c j) (sight f c j')
+looked_more f c j j' h = record {
+  frame = refl;
+  within = record { channels = ([], append-nil c.seen); jobs = h.longer; order = order_same c.order; job_order = h.same.order };
+  same = record { calls = refl; jobs = h.mine };
+}
+
 -- ---- what is known of a coroutine goes on to be so
 
 pub known_more : (m m' s : Sight) → IsWithin m m' → KnowsAllOf m s → KnowsAllOf m' s
 known_more m m' s w h = record {
   past = h.past;
-  within =
-      record { channels = prefix_then _ _ _ h.within.channels w.channels; jobs = prefix_then _ _ _ h.within.jobs w.jobs };
+  within = within_then h.past m m' h.within w;
   same = h.same;
 }
 
@@ -180,6 +229,8 @@ pub within_same : (m s s' : Sight) → IsSeenSame s s' → IsWithin s m → IsWi
 within_same m s s' same w = record {
   channels = subst (λ (x : ChannelFloor). IsPrefix x.seen m.channels.seen) (sym same.channels) w.channels;
   jobs = subst (λ (x : Floor). IsPrefix x.seen m.jobs.seen) (sym same.jobs) w.jobs;
+  order = subst (λ (x : ChannelFloor). IsPrefix x.order m.channels.order) (sym same.channels) w.order;
+  job_order = subst (λ (x : Floor). IsPrefix x.order m.jobs.order) (sym same.jobs) w.job_order;
 }
 
 pub rested_still : (p : Program) (first s s' : Sight) → SawMore s s' → HasRested p first s → HasRested p first s'
@@ -190,19 +241,12 @@ rested_still p first s s' more h = record {
   rested = h.rested;
   kept = h.kept;
   frame = more.frame ∙ h.frame;
-  since = record {
-    channels = prefix_then _ _ _ h.since.channels more.within.channels;
-    jobs =
-        prefix_then _ _ _ h.since.jobs more.within.jobs;
-  };
+  since = within_then h.after s s' h.since more.within;
   same = subst (λ (f : Frame). SameOf f.tag h.before s') (sym more.frame) (same_then s.frame.tag h.before s s' h.same more.same);
 }
 
 pub rested_same : (p : Program) (first s s' : Sight) → IsSeenSame s s' → HasRested p first s → HasRested p first s'
 rested_same p first s s' same h = rested_still p first s s' (more_same s s' same) h
-
-pub within_then : (a b c : Sight) → IsWithin a b → IsWithin b c → IsWithin a c
-within_then a b c h g = record { channels = prefix_then _ _ _ h.channels g.channels; jobs = prefix_then _ _ _ h.jobs g.jobs }
 
 -- one that had seen all, and whose poll came to nothing
 pub rested_now : (p : Program) (first s s' : Sight) → IsWithin first s → Rested p s s' → Keeps p s' → HasRested p first s'
@@ -213,7 +257,7 @@ rested_now p first s s' knew h kept = record {
   rested = h;
   kept = kept;
   frame = refl;
-  since = record { channels = ([], append-nil s'.channels.seen); jobs = ([], append-nil s'.jobs.seen) };
+  since = within_itself s';
   same = did_nothing p s s' h;
 }
 
@@ -244,4 +288,6 @@ pub within_from : (m s s' : Sight) → IsSeenSame s s' → IsWithin s' m → IsW
 within_from m s s' same w = record {
   channels = subst (λ (x : ChannelFloor). IsPrefix x.seen m.channels.seen) same.channels w.channels;
   jobs = subst (λ (x : Floor). IsPrefix x.seen m.jobs.seen) same.jobs w.jobs;
+  order = subst (λ (x : ChannelFloor). IsPrefix x.order m.channels.order) same.channels w.order;
+  job_order = subst (λ (x : Floor). IsPrefix x.order m.jobs.order) same.jobs w.job_order;
 }

@@ -6,14 +6,15 @@ pub mod RefusalsTold
 pub mod LaterStands
 pub mod CannotGoOn
 pub mod Exact
+pub mod OneOrder
 pub mod RunsEnd
 pub mod Lists
 pub mod Hearing
 pub mod Meeting
 pub mod FreshTasks
 pub mod BroughtTogether
-pub mod OrderCounts
 pub mod OwnMoments
 pub mod ToldAlong
 pub mod AlongLater
 pub mod PolledAlong
+pub mod PointsGoOn

@@ -1,5 +1,5 @@
 -- Who alone makes entries begins, and is polled, along one order of both histories.
-use Rattle.std.specs.Prelude.{◌≡◌, ◌≢◌, ℕ, true, List, [], ◌++◌, length, refl}
+use Rattle.std.specs.Prelude.{◌≡◌, ◌≢◌, ◌≤◌, ℕ, true, List, [], ◌++◌, length, refl}
 use Rattle.std.proofs.Common.{ap, sym, ◌∙◌, subst, arith, length-append}
 use Rattle.std.proofs.lemmas.List.{append-nil, length-map}
 use Rattle.channel_model.specs.declared.acts.Act.{Act}
@@ -20,10 +20,12 @@ use Rattle.script_meaning.specs.Configs.{fresh}
 use Rattle.script_meaning.specs.Books.{Begins, Reaches}
 use Rattle.script_meaning.specs.Polls.{Frame, StandsOn, Begun, Polled}
 use Rattle.script_meaning.proofs.BooksGoOn.{items_in-append, reaches_turned}
-use Rattle.run_laws.specs.Orders.{Side, IsOrderOf, IsTrueAlong, RunsAlong}
-use Rattle.run_laws.proofs.OrderCounts.{channel_entries_in-append, job_entries_in-append, sides_of, order_after, channel_entries_in-sides_of, job_entries_in-sides_of}
+use Rattle.co_base.specs.Orders.{Side, channel_entries_in, job_entries_in}
+use Rattle.call_meaning.specs.Orders.{IsOrderOf, IsTrueAlong}
+use Rattle.run_laws.specs.Orders.{RunsAlong}
+use Rattle.call_meaning.proofs.OrderCounts.{channel_entries_in-append, job_entries_in-append, sides_of, order_after, channel_entries_in-sides_of, job_entries_in-sides_of}
 use Rattle.run_laws.proofs.ToldAlong.{told_along}
-use Rattle.run_laws.proofs.AlongLater.{along_later, along_then}
+use Rattle.call_meaning.proofs.Along.{along_later, along_then}
 
 -- ---- before the first poll
 
@@ -124,7 +126,13 @@ polled_along p c c' j j' f g order a b on whole r h = record {
     by = record { channels = h.channels.longer; jobs = h.jobs.longer }
 
     old : IsTrueAlong (story_of (floor_shape p) f.tag (seen_by c' j')) order [] [] r.told
-    old = along_later (floor_shape p) f.tag (seen_by c j) (seen_by c' j') order order [] [] r.told whole by ([], append-nil order) r.is_true
+    old =
+        let calls = whole.channels in
+        let jobs = whole.jobs in
+        let few : channel_entries_in order ≤ length c.seen = omega (arith, calls) in
+        let few_jobs : job_entries_in order ≤ length j.seen = omega (arith, jobs) in
+        along_later (floor_shape p) f.tag (seen_by c j) (seen_by c' j') order order [] [] r.told few few_jobs by ([], append-nil order)
+        r.is_true
 
     new : IsTrueAlong (story_of (floor_shape p) f.tag (seen_by c' j')) (order_after order h.told) (items_in r.told) order h.told
     new = subst (λ l. IsTrueAlong (story_of (floor_shape p) f.tag (seen_by c' j')) (order_after order h.told) l order h.told)

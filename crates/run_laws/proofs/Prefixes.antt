@@ -7,7 +7,7 @@ use mathlib.Core.List.{IsPrefix}
 pub prefix_then : {A : Type 0} (xs ys zs : List A) → IsPrefix xs ys → IsPrefix ys zs → IsPrefix xs zs
 prefix_then xs ys zs (a, e) (b, f) = (a ++ b, sym (append_assoc xs a b) ∙ ap (λ l. l ++ b) e ∙ f)
 
-prefix_length : {A : Type 0} (xs ys : List A) → IsPrefix xs ys → length xs ≤ length ys
+pub prefix_length : {A : Type 0} (xs ys : List A) → IsPrefix xs ys → length xs ≤ length ys
 prefix_length xs ys (a, e) = let parts = length-append xs a in let whole : length (xs ++ a) ≡ length ys = ap length e
     in omega (arith, parts, whole)
 

@@ -32,7 +32,9 @@ use Rattle.script_laws.specs.Owners.{AreClaimed, AllNoted}
 use Rattle.run_laws.specs.Parts.{AreParts}
 use Rattle.run_laws.specs.Sights.{Sight, CountUp}
 use Rattle.run_laws.specs.LastRounds.{KnowsAllOf, HasRested}
-use Rattle.run_laws.specs.Ends.{IsBroughtTo, NoOthers, books_in, IsRunAtRest}
+use Rattle.run_laws.specs.Orders.{RunsAlong, InOneOrder}
+use Rattle.run_laws.specs.Ends.{IsBroughtTo, NoOthers, books_in, IsRunInOneOrderIf}
+use Rattle.run_laws.proofs.OneOrder.{AlongTo, along_whole}
 use Rattle.run_laws.proofs.Exact.{same_calls, same_jobs, calls_between, jobs_between}
 use Rattle.run_laws.proofs.RefusalsTold.{refused_later, never_refused}
 use Rattle.run_laws.proofs.ClosedAtOnce.{closes_always}
@@ -375,5 +377,22 @@ module _ (p : Program) (first : Sight) (sights : List Sight) (c : ChannelFloor) 
         ∙ sym same_tree) h.seen.3;
   }
 
-  pub run_rests : IsRunAtRest p (books_in sights) c.seen j.seen root
-  run_rests = (the_books, idle)
+  -- ---- one order
+
+  in_one_order : All (λ s. s.jobs.joint ≡ true) sights → InOneOrder p (books_in sights) c.seen j.seen the_books
+  unfolding the_books
+  in_one_order joint =
+      let whole = along_whole p c j sights h.brought joint in
+      record {
+        order = whole.order;
+        whole = whole.whole;
+        runs = λ k lt.
+            let x = the_sight k lt in
+            subst (λ o. RunsAlong p k (seen_by c j) whole.order (book_at k (books_in sights)) (config_in o)) (sym x.1)
+            (subst (λ b. RunsAlong p k (seen_by c j) whole.order b (x.0.frame.config)) (sym (book k (Some x.0) x.1))
+            (subst (λ n. RunsAlong p n (seen_by c j) whole.order (x.0.frame.book) (x.0.frame.config)) (tag_of k x.0 x.1)
+            (all_at (AlongTo p c j whole.order) sights k x.0 whole.runs x.1)));
+      }
+
+  pub run_rests : (T : Type 0) → (T → All (λ s. s.jobs.joint ≡ true) sights) → IsRunInOneOrderIf T p (books_in sights) c.seen j.seen root
+  run_rests T joint = ((the_books, idle), λ t. in_one_order (joint t))

@@ -18,9 +18,10 @@ use Rattle.note_book.proofs.Appended.{channel_acts_in-append, job_acts_in-append
 use Rattle.call_meaning.specs.Telling.{Told, note, on_channels, on_jobs, items_in}
 use Rattle.call_meaning.specs.Facts.{ToldHolds}
 use Rattle.call_meaning.specs.Stories.{Moment, IsBy, IsTrue, story_of}
-use Rattle.run_laws.specs.Orders.{Side, channel_entries_in, job_entries_in, IsOrderOf, IsSoAlong, IsTrueAlong}
+use Rattle.co_base.specs.Orders.{Side, channel_entries_in, job_entries_in}
+use Rattle.call_meaning.specs.Orders.{IsOrderOf, IsSoAlong, IsTrueAlong}
 use Rattle.run_laws.proofs.Prefixes.{prefix_then}
-use Rattle.run_laws.proofs.OrderCounts.{channel_entries_in-append, job_entries_in-append, sides_of, sides_of-append, channel_entries_in-sides_of, job_entries_in-sides_of}
+use Rattle.call_meaning.proofs.OrderCounts.{channel_entries_in-append, job_entries_in-append, sides_of, sides_of-append, channel_entries_in-sides_of, job_entries_in-sides_of}
 use Rattle.run_laws.proofs.OwnMoments.{known_by, calls_are_all, jobs_are_all}
 
 by_then : (a b c : Moment) → IsBy a b → IsBy b c → IsBy a c

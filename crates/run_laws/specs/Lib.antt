@@ -1,8 +1,8 @@
 pub mod Parts
 pub mod Refusals
+pub mod Orders
 pub mod Sights
 pub mod Starts
 pub mod Looks
 pub mod LastRounds
-pub mod Orders
 pub mod Ends

@@ -2,6 +2,7 @@
 use Rattle.std.specs.Prelude.{◌≡◌, ◌≢◌, ℕ, ◌==◌, ◌<◌, ◌≤◌, ◌⊎◌, Bool, true, false, List, [], ◌∷◌, ◌++◌, Some, None, is_some, if◌then◌else◌}
 use Rattle.std.specs.List.{list_any}
 use Rattle.co_base.specs.declared.names.WaitId.{WaitId}
+use Rattle.co_base.specs.Orders.{Side}
 use Rattle.channel_model.specs.declared.floor.WaitState.TheVariants.{Standing}
 use Rattle.channel_model.specs.Histories.{acts_of}
 use Rattle.channel_model.specs.Floors.{Floor as ChannelFloor, Added as AddedToChannels, AtStep as AtChannelStep}
@@ -16,6 +17,7 @@ use Rattle.note_book.specs.Items.{channel_acts_in, job_acts_in}
 use Rattle.call_meaning.specs.Telling.{Told, items_in}
 use Rattle.call_meaning.specs.Facts.{IsRunning, end_at}
 use Rattle.call_meaning.specs.Stories.{Moment, IsTrue}
+use Rattle.call_meaning.specs.Orders.{IsAt, WasSoAlong}
 use Rattle.call_meaning.specs.Calls.{seen_by, rows_in}
 use Rattle.script_grammar.specs.declared.instructions.Instruction.TheVariants as line
 use Rattle.script_grammar.specs.Programs.{Program}
@@ -134,6 +136,9 @@ pub record Polled (p : Program) (c c' : ChannelFloor) (j j' : Floor) (f g : Fram
   pub channels : AddedToChannels f.tag (channel_acts_in (items_in told)) c c'
   pub jobs : Added f.tag (job_acts_in (items_in told)) (rows_in (job_acts_in (items_in told))) j j'
   pub refused : RefusedByClaims f.config (items_in told) j'
+  -- and so at points of the order of both histories, if there is one
+  pub along : j.joint ≡ true → (point : List Side) → IsAt f.tag c j f.book point
+      → WasSoAlong (floor_shape p) f.tag f.book c' j' told point
 
 -- ---- its answer
 

@@ -9,7 +9,7 @@ use Rattle.run_laws.specs.Ends.{IsBroughtTo}
 use Rattle.run_laws.proofs.Hearing.{tags_same}
 use Rattle.run_laws.proofs.BroughtTogether.{brought_still, all_brought, all_still, books_push, none_else}
 use Rattle.engine_many.specs.Parts.{sight_of}
-use Rattle.engine_many.proofs.WholeFloors.{aside_there}
+use Rattle.engine_many.proofs.WholeFloors.{aside_there, ended_heard}
 use Rattle.engine_many.proofs.ending.end_floors.Goals as goal
 
 pub loop-other-preserved : goal.loop-other-preserved
@@ -29,7 +29,7 @@ loop-other-preserved g c =
       others = all_brought (sight_of g.C.ChannelFloor.view g.J.JobFloor.view) g.N.ScriptName.program _ _ _ _ c.loop-other.yielded
           c.args.root c.in-Some.other ended jobs i.root c.into_parts-frame-in-loop-other.ensures.keeps i.others;
       tags = tags_same g.N.ScriptName.program _ _ _ _ _ (ap g.C.SharedChannels.may_act c.end.ensures.anchor)
-          (ap g.J.SharedJobs.may_act c.end-in-loop-other.ensures.anchor) i.tags;
+          (ap g.J.SharedBeside.may_act_beside c.end.ensures.anchor) i.tags;
     }
 
 pub returns-clause-books : goal.returns-clause-books
@@ -43,7 +43,9 @@ returns-clause-books g c =
 
 pub returns-clause-root : goal.returns-clause-root
 returns-clause-root g c = brought_still g.N.ScriptName.program _ _ _ _ _ _ (sight_of g.C.ChannelFloor.view g.J.JobFloor.view c.args.root)
-    c.end-2.ensures.ended c.end-3.ensures.ended c.loop-other.invariant.root
+    (ended_heard _ _ _ _ (c.learn.ensures.looked _ c.loop-other.invariant.root.caller) c.learn.ensures.looked c.end-3.ensures.ended)
+    (subst (λ f. EndedOnJobs (g.J.JobFloor.view c.loop-other.jobs) f (g.J.JobFloor.view c.args.aside.1)) (sym c.learn.ensures.jobs)
+    c.end-2.ensures.ended) c.loop-other.invariant.root
 
 pub returns-clause-others : goal.returns-clause-others
 returns-clause-others g c =
@@ -52,22 +54,32 @@ returns-clause-others g c =
     ∙ ap length began.0)) c.loop-other.yielded c.loop-other.other-iterator c.loop-other.yielded_by c.next.result c.next.new.self
     c.in-None.is c.next.ensures.steps in
     let e : c.loop-other.yielded ≡ c.args.others.items = sym (map-id c.loop-other.yielded) ∙ end.0 in
-    subst (All (λ x. IsBroughtTo g.N.ScriptName.program (g.C.ChannelFloor.view c.end-2.new.self) (g.J.JobFloor.view c.end-3.new.self)
+    subst (All (λ x. IsBroughtTo g.N.ScriptName.program (g.C.ChannelFloor.view c.end-3.new.self) (g.J.JobFloor.view c.learn.new.self)
     (sight_of g.C.ChannelFloor.view g.J.JobFloor.view x))) e
     (all_still (sight_of g.C.ChannelFloor.view g.J.JobFloor.view) g.N.ScriptName.program _ _ _ _ _ _ c.loop-other.yielded
-    c.end-2.ensures.ended c.end-3.ensures.ended c.loop-other.invariant.others)
+    (ended_heard _ _ _ _ (c.learn.ensures.looked _ c.loop-other.invariant.root.caller) c.learn.ensures.looked c.end-3.ensures.ended)
+    (subst (λ f. EndedOnJobs (g.J.JobFloor.view c.loop-other.jobs) f (g.J.JobFloor.view c.args.aside.1)) (sym c.learn.ensures.jobs)
+    c.end-2.ensures.ended) c.loop-other.invariant.others)
 
 pub returns-clause-aside : goal.returns-clause-aside
-returns-clause-aside g c = aside_there g.N.ScriptName.program _ _ _ _ _ _ c.end-2.ensures.ended c.end-3.ensures.ended c.requires.aside
+returns-clause-aside g c = aside_there g.N.ScriptName.program _ _ _ _ _ _
+    (ended_heard _ _ _ _ (c.learn.ensures.looked _ c.loop-other.invariant.root.caller) c.learn.ensures.looked c.end-3.ensures.ended)
+    (subst (λ f. EndedOnJobs (g.J.JobFloor.view c.loop-other.jobs) f (g.J.JobFloor.view c.args.aside.1)) (sym c.learn.ensures.jobs)
+    c.end-2.ensures.ended) c.requires.aside
 
 pub returns-clause-tags : goal.returns-clause-tags
-returns-clause-tags g c = tags_same g.N.ScriptName.program _ _ _ _ _ (ap g.C.SharedChannels.may_act c.end-2.ensures.anchor)
-    (ap g.J.SharedJobs.may_act c.end-3.ensures.anchor) c.loop-other.invariant.tags
+returns-clause-tags g c = tags_same g.N.ScriptName.program _ _ _ _ _
+    (ap g.C.SharedChannels.may_act (c.end-3.ensures.anchor ∙ c.learn.ensures.channels_anchor))
+    (ap g.J.SharedBeside.may_act_beside (c.end-3.ensures.anchor ∙ c.learn.ensures.channels_anchor)) c.loop-other.invariant.tags
 
 pub returns-clause-none : goal.returns-clause-none
 returns-clause-none g c =
-    none_else g.N.ScriptName.program _ _ _ _ _ _ (g.C.SharedChannels.may_act (g.C.ChannelFloor.anchor c.end-2.new.self))
-    (g.J.SharedJobs.may_act (g.J.JobFloor.anchor c.end-3.new.self)) c.end-2.ensures.ended c.end-3.ensures.ended c.requires.aside
-    (tags_same g.N.ScriptName.program _ _ _ _ _ (ap g.C.SharedChannels.may_act c.end-2.ensures.anchor)
-    (ap g.J.SharedJobs.may_act c.end-3.ensures.anchor) c.loop-other.invariant.tags)
-    c.end-2.ensures.none c.end-3.ensures.none c.end-3.ensures.unclaimed
+    none_else g.N.ScriptName.program _ _ _ _ _ _ (g.C.SharedChannels.may_act (g.C.ChannelFloor.anchor c.end-3.new.self))
+    (g.J.SharedBeside.may_act_beside (g.C.ChannelFloor.anchor c.learn.new.channels))
+    (ended_heard _ _ _ _ (c.learn.ensures.looked _ c.loop-other.invariant.root.caller) c.learn.ensures.looked c.end-3.ensures.ended)
+    (subst (λ f. EndedOnJobs (g.J.JobFloor.view c.loop-other.jobs) f (g.J.JobFloor.view c.args.aside.1)) (sym c.learn.ensures.jobs)
+    c.end-2.ensures.ended) c.requires.aside
+    (tags_same g.N.ScriptName.program _ _ _ _ _
+    (ap g.C.SharedChannels.may_act (c.end-3.ensures.anchor ∙ c.learn.ensures.channels_anchor))
+    (ap g.J.SharedBeside.may_act_beside c.learn.ensures.channels_anchor) c.loop-other.invariant.tags)
+    c.end-3.ensures.none c.learn.ensures.none c.learn.ensures.unclaimed

@@ -14,5 +14,5 @@ invariant-loop-other g l = record {
   others : All (λ x. IsBroughtTo g.N.ScriptName.program (g.C.ChannelFloor.view l.channels) (g.J.JobFloor.view l.jobs)
       (sight_of g.C.ChannelFloor.view g.J.JobFloor.view x)) l.yielded;
   tags : KnowsTags g.N.ScriptName.program 0 (g.C.SharedChannels.may_act (g.C.ChannelFloor.anchor l.channels))
-      (g.J.SharedJobs.may_act (g.J.JobFloor.anchor l.jobs));
+      (g.J.SharedBeside.may_act_beside (g.C.ChannelFloor.anchor l.channels));
 }

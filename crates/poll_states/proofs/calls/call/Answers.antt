@@ -1,4 +1,4 @@
-use Rattle.std.proofs.Common.{refl, ap, sym, subst, arith}
+use Rattle.std.proofs.Common.{refl, ap, sym, subst, ◌∙◌, arith}
 use Rattle.channel_model.specs.Floors.{MayCall}
 use Rattle.script_reader.specs.Scripts.{program_of}
 use Rattle.script_meaning.specs.Configs.{Config}
@@ -38,16 +38,18 @@ go_on-requires-clause-line g c = let h = line_short c.args.script.now c.args.fra
     in omega (arith, h, ap (λ (x : Config). x.line) c.room_for.ensures.config)
 
 pub returns-in-Ok-clause-came : goal.returns-in-Ok-clause-came
-returns-in-Ok-clause-came g c =
-    stepped_from (program_of c.args.script.now) _ _ _ _ (noted g.B.NoteBook.items c.args.frame.now)
+returns-in-Ok-clause-came g c = rw c.hear.ensures.channels
+    (stepped_from (program_of c.args.script.now) _ _ _ _ (noted g.B.NoteBook.items c.args.frame.now)
     (noted g.B.NoteBook.items c.room_for.new.self) _ c.room_for.ensures.tag c.room_for.ensures.config
     c.room_for.ensures.items
-    (has_called (program_of c.args.script.now) _ _ (noted g.B.NoteBook.items c.room_for.new.self) _ _ c.args.line _ c.in-Ok.answer
-    c.args.script.now.well_formed (g.met.J.JobFloor.legal c.args.floors.now.jobs.now)
+    (has_called (program_of c.args.script.now) _ _ _ (noted g.B.NoteBook.items c.room_for.new.self) _ _ c.args.line _ c.in-Ok.answer
+    (c.hear.ensures.heard _ (ap (g.J.JobFloor.view c.args.floors.now.jobs.now).callers c.room_for.ensures.tag
+    ∙ c.requires.stands.on.of_jobs))
+    c.args.script.now.well_formed (g.met.J.JobFloor.legal c.hear.new.self.jobs.now)
     (at_same (program_of c.args.script.now) (noted g.B.NoteBook.items c.args.frame.now) (noted g.B.NoteBook.items c.room_for.new.self)
     _ c.room_for.ensures.tag c.room_for.ensures.config c.requires.at) c.element_of-value.ensures c.in-Ok.ensures.answer
     c.in-Ok.ensures.same.who c.go_on.ensures.tag
-    c.go_on.ensures.config c.go_on.ensures.items)
+    c.go_on.ensures.config c.go_on.ensures.items))
 
 pub returns-in-Err-answer-clause-came : goal.returns-in-Err-answer-clause-came
 returns-in-Err-answer-clause-came g c =

@@ -6,6 +6,7 @@ use Rattle.poll_states.specs.Frames.{noted, config_of}
 use Rattle.script_meaning.specs.Bodies.{is_fresh}
 use Rattle.poll_states.proofs.Standing.{line_short, stands_attached}
 use Rattle.poll_states.proofs.LineNeeds.{stands_build, launched_block, free_short, free_row, jobs_same, launch_config, rows_config}
+use Rattle.poll_states.proofs.Hearing.{told_first}
 use Rattle.poll_states.proofs.Stepping.{cut_nothing, cut_jobs}
 use Rattle.poll_states.proofs.JobLines.{has_launched, launch_refused, refused_for}
 use Rattle.poll_states.proofs.jobs.launch.Goals as goal
@@ -41,21 +42,23 @@ skip_launched-requires-clause-free g c = let h = free_short _ _ _ _ _ _ _ c.args
     (g.met.J.JobFloor.legal c.args.floors.now.jobs.now) c.requires.stands c.requires.at in omega (arith, h, c.size_of-size.ensures)
 
 pub returns-in-Ok-clause-came : goal.returns-in-Ok-clause-came
-returns-in-Ok-clause-came g c =
-    has_launched (program_of c.args.script.now) (ap g.C.ChannelFloor.view c.in-Ok.ensures.channels)
+returns-in-Ok-clause-came g c = rw c.tell.ensures.jobs
+    (has_launched (program_of c.args.script.now) (told_first (ap g.C.ChannelFloor.view c.in-Ok.ensures.channels)
+    c.requires.stands.on.of_channels (c.tell.ensures.told _))
     (g.met.J.JobFloor.legal c.launch-answer.new.self.jobs.now) c.requires.at c.innermost-parent.ensures c.is_lazy.ensures
     c.size_of-size.ensures (jobs_same _ _ _ _ (noted g.B.NoteBook.items c.args.frame.now)
     (noted g.B.NoteBook.items c.skip_launched.new.self) _ _ c.in-Ok.ensures.answer.1 c.skip_launched.ensures.tag
     c.skip_launched.ensures.items) c.skip_launched.ensures.tag
-    (c.skip_launched.ensures.config ∙ launch_config (config_of c.args.frame.now) _ _ _ c.reserve.ensures.items)
+    (c.skip_launched.ensures.config ∙ launch_config (config_of c.args.frame.now) _ _ _ c.reserve.ensures.items))
 
 pub returns-in-Used-clause-came : goal.returns-in-Used-clause-came
-returns-in-Used-clause-came g c =
-    launch_refused (program_of c.args.script.now)
-    (ap g.C.ChannelFloor.view c.in-Err.ensures.channels) (g.met.J.JobFloor.legal c.args.floors.now.jobs.now)
+returns-in-Used-clause-came g c = rw c.tell-in-Used.ensures.jobs
+    (launch_refused (program_of c.args.script.now)
+    (told_first (ap g.C.ChannelFloor.view c.in-Err.ensures.channels) c.requires.stands.on.of_channels (c.tell-in-Used.ensures.told _))
+    (g.met.J.JobFloor.legal c.args.floors.now.jobs.now)
     (g.met.J.JobFloor.legal c.launch-answer.new.self.jobs.now) c.requires.stands c.requires.at c.innermost-parent.ensures
     (refused_for c.is_lazy.result c.in-Used.is c.in-Err.ensures.answer) c.fail.ensures.tag
-    (c.fail.ensures.config ∙ rows_config (config_of c.args.frame.now) _ _ c.reserve.ensures.items) c.fail.ensures.items
+    (c.fail.ensures.config ∙ rows_config (config_of c.args.frame.now) _ _ c.reserve.ensures.items) c.fail.ensures.items)
 
 pub returns-in-Memory-clause-came : goal.returns-in-Memory-clause-came
 returns-in-Memory-clause-came g c = cut_jobs _ (ap g.C.ChannelFloor.view c.in-Err.ensures.channels) refl

@@ -26,12 +26,14 @@ pub next_line-requires : goal.next_line-requires
 next_line-requires g c = let h = line_short c.args.script.now c.args.frame.now.tag _ _ c.requires.at.line_is in omega (arith, h)
 
 pub returns-in-Cancelling-clause-came : goal.returns-in-Cancelling-clause-came
-returns-in-Cancelling-clause-came g c = stopped (program_of c.args.script.now) _ _ _ _ _ (g.met.J.JobFloor.legal c.own_state-state.new.jobs)
+returns-in-Cancelling-clause-came g c = rw c.tell.ensures.jobs (stopped (program_of c.args.script.now) _ _ _ _ _ _
+    (c.tell.ensures.told _ c.requires.stands.on.of_channels) (g.met.J.JobFloor.legal c.own_state-state.new.jobs)
     c.requires.at (rw c.innermost-row.ensures at (rw c.in-Cancelling.is at c.own_state-state.ensures.seen)) c.see_cancelling.ensures.tag
     c.see_cancelling.ensures.config
-    (note_after _ _ _ _ (rw c.innermost-row.ensures at c.see_cancelling.ensures.items) c.room.ensures.items)
+    (note_after _ _ _ _ (rw c.innermost-row.ensures at c.see_cancelling.ensures.items) c.room.ensures.items))
 
 pub returns-in-MayRun-clause-came : goal.returns-in-MayRun-clause-came
-returns-in-MayRun-clause-came g c = yielded (program_of c.args.script.now) _ _ _ _ _ (g.met.J.JobFloor.legal c.own_state-state.new.jobs)
+returns-in-MayRun-clause-came g c = rw c.tell-in-MayRun.ensures.jobs (yielded (program_of c.args.script.now) _ _ _ _ _ _
+    (c.tell-in-MayRun.ensures.told _ c.requires.stands.on.of_channels) (g.met.J.JobFloor.legal c.own_state-state.new.jobs)
     c.requires.at (rw c.innermost-row.ensures at (rw c.in-MayRun.is at c.own_state-state.ensures.seen)) c.next_line.ensures.tag
-    c.next_line.ensures.config (c.next_line.ensures.items ∙ c.room.ensures.items)
+    c.next_line.ensures.config (c.next_line.ensures.items ∙ c.room.ensures.items))

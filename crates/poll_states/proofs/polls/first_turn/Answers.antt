@@ -19,52 +19,57 @@ own_state-requires g c = fresh_body _ _ _ _ (g.met.J.JobFloor.legal c.args.floor
     (ap is_over c.requires.fresh)
 
 pub run-requires-clause-stands : goal.run-requires-clause-stands
-run-requires-clause-stands g c = first_stands (program_of c.args.script.now) _ _ _ _ _ (g.met.J.JobFloor.legal c.own_state.new.jobs)
-    c.requires.stands c.requires.fresh (rw c.in-MayRun.is at c.own_state.ensures.seen) refl refl c.room.ensures.items
+run-requires-clause-stands g c = rw c.tell-in-MayRun.ensures.jobs (first_stands (program_of c.args.script.now) _ _ _ _ _ _
+    (c.tell-in-MayRun.ensures.told _ c.requires.stands.on.of_channels) (g.met.J.JobFloor.legal c.own_state.new.jobs)
+    c.requires.stands c.requires.fresh (rw c.in-MayRun.is at c.own_state.ensures.seen) refl refl c.room.ensures.items)
 
 pub go_on-requires : goal.go_on-requires
-go_on-requires g c = step_stands (first_stands (program_of c.args.script.now) _ _ _ _ _
+go_on-requires g c = step_stands (rw c.tell-in-MayRun.ensures.jobs (first_stands (program_of c.args.script.now) _ _ _ _ _ _
+    (c.tell-in-MayRun.ensures.told _ c.requires.stands.on.of_channels)
     (g.met.J.JobFloor.legal c.own_state.new.jobs) c.requires.stands c.requires.fresh (rw c.in-MayRun.is at c.own_state.ensures.seen) refl
-    refl c.room.ensures.items) c.in-Ok.ensures.came
+    refl c.room.ensures.items)) c.in-Ok.ensures.came
 
 pub returns-in-NotStarted-clause-polled : goal.returns-in-NotStarted-clause-polled
 returns-in-NotStarted-clause-polled g c = polled_idle _ _ _ _ _ _ (g.met.J.JobFloor.legal c.own_state.new.jobs) c.requires.stands
     c.requires.fresh (rw c.in-NotStarted.is at c.own_state.ensures.seen) refl refl c.room.ensures.items
 
 pub returns-in-Cancelling-clause-polled : goal.returns-in-Cancelling-clause-polled
-returns-in-Cancelling-clause-polled g c =
-    polled_ready c.requires.stands
-    (never_begun (program_of c.args.script.now) _ _ _ _ _ (g.met.J.JobFloor.legal c.own_state.new.jobs) c.requires.fresh
+returns-in-Cancelling-clause-polled g c = rw c.tell.ensures.jobs
+    (polled_ready c.requires.stands
+    (never_begun (program_of c.args.script.now) _ _ _ _ _ _ (c.tell.ensures.told _ c.requires.stands.on.of_channels)
+    (g.met.J.JobFloor.legal c.own_state.new.jobs) c.requires.fresh
     (rw c.in-Cancelling.is at c.own_state.ensures.seen) c.see_cancelling.ensures.tag c.see_cancelling.ensures.config
     (note_after _ _ _ _ c.see_cancelling.ensures.items c.room.ensures.items))
-    (ap (λ (x : Config). x.stage) c.see_cancelling.ensures.config) refl
+    (ap (λ (x : Config). x.stage) c.see_cancelling.ensures.config) refl)
 
 pub returns-in-Ok-clause-polled : goal.returns-in-Ok-clause-polled
 returns-in-Ok-clause-polled g c = poll_first_on c.args.script.now _ c.go_on.result (g.met.J.JobFloor.legal c.go_on.new.floors.jobs.now)
-    c.requires.stands
+    c.requires.stands c.in-Ok.ensures.came c.go_on.ensures.went
     (record {
-      channels = refl;
-      legal = g.met.J.JobFloor.legal c.own_state.new.jobs;
+      heard = rw c.tell-in-MayRun.ensures.jobs (c.tell-in-MayRun.ensures.told _ c.requires.stands.on.of_channels);
+      legal = g.met.J.JobFloor.legal c.tell-in-MayRun.new.self.jobs.now;
       fresh = c.requires.fresh;
-      runs = rw c.in-MayRun.is at c.own_state.ensures.seen;
+      runs = rw c.tell-in-MayRun.ensures.jobs (rw c.in-MayRun.is at c.own_state.ensures.seen);
       tag = refl;
       config = refl;
       items = c.room.ensures.items;
-    }) c.in-Ok.ensures.came c.go_on.ensures.went
+    })
 
 pub returns-in-Ok-clause-quiet : goal.returns-in-Ok-clause-quiet
 returns-in-Ok-clause-quiet g c = quiet_first_on _ c.args.script.now _ c.go_on.result (g.met.J.JobFloor.legal c.go_on.new.floors.jobs.now)
-    c.requires.stands
+    c.requires.stands c.in-Ok.ensures.came c.go_on.ensures.went
     (record {
-      channels = refl;
-      legal = g.met.J.JobFloor.legal c.own_state.new.jobs;
+      heard = rw c.tell-in-MayRun.ensures.jobs (c.tell-in-MayRun.ensures.told _ c.requires.stands.on.of_channels);
+      legal = g.met.J.JobFloor.legal c.tell-in-MayRun.new.self.jobs.now;
       fresh = c.requires.fresh;
-      runs = rw c.in-MayRun.is at c.own_state.ensures.seen;
+      runs = rw c.tell-in-MayRun.ensures.jobs (rw c.in-MayRun.is at c.own_state.ensures.seen);
       tag = refl;
       config = refl;
       items = c.room.ensures.items;
-    }) c.in-Ok.ensures.came c.go_on.ensures.went
+    })
 
 pub returns-in-Err-run-clause-polled : goal.returns-in-Err-run-clause-polled
-returns-in-Err-run-clause-polled g c = cut_first (rw c.in-MayRun.is at c.own_state.ensures.seen) refl refl c.room.ensures.items
+returns-in-Err-run-clause-polled g c = cut_first
+    (rw c.tell-in-MayRun.ensures.jobs (rw c.in-MayRun.is at c.own_state.ensures.seen))
+    (rw c.tell-in-MayRun.ensures.jobs (c.tell-in-MayRun.ensures.told _ c.requires.stands.on.of_channels)) refl c.room.ensures.items
     c.in-Err-run.ensures.came

@@ -23,35 +23,29 @@ end_scope_wait-requires-clause-can g c = call_looked _ _ _ _ c.was_resolved.ensu
 
 pub go_on-requires : goal.go_on-requires
 go_on-requires g c = step_stands c.requires.stands
-    (subst (λ z. Stepped (program_of c.args.script.now) (at_poll (g.C.ChannelFloor.view c.args.floors.now.channels.now)
-    (g.J.JobFloor.view c.args.floors.now.jobs.now) (noted g.B.NoteBook.items c.args.frame.now))
-    (at_poll (g.C.ChannelFloor.view c.end_scope_wait.new.floors.channels.now) (g.J.JobFloor.view z)
-    (noted g.B.NoteBook.items c.end_scope_wait.new.frame))) (sym c.end_scope_wait.ensures.jobs)
-    (scope_waited (program_of c.args.script.now) _ _ _ _ _ _ _ (g.met.C.ChannelFloor.legal c.was_resolved.new.channels)
-    (g.met.J.JobFloor.legal c.args.floors.now.jobs.now) c.requires.stands c.requires.leaves c.was_resolved.ensures.seen.looked
-    c.in-Ok.ensures.answer c.end_scope_wait.ensures.tag))
+    (rw (← c.hear.ensures.channels) at
+    (scope_waited (program_of c.args.script.now) _ _ _ _ _ _ _ _ (g.met.C.ChannelFloor.legal c.was_resolved.new.channels)
+    (g.met.J.JobFloor.legal c.hear.new.self.jobs.now) c.requires.stands c.requires.leaves c.was_resolved.ensures.seen.looked
+    c.in-Ok.ensures.answer c.end_scope_wait.ensures.tag
+    ((rw c.end_scope_wait.ensures.jobs at c.hear.ensures.heard) _ c.requires.stands.on.of_jobs)))
 
 pub returns-in-Ok-clause-polled : goal.returns-in-Ok-clause-polled
 returns-in-Ok-clause-polled g c = poll_on c.args.script.now _ c.go_on.result
     (g.met.J.JobFloor.legal c.go_on.new.floors.jobs.now) c.requires.stands
-    (subst (λ z. Stepped (program_of c.args.script.now) (at_poll (g.C.ChannelFloor.view c.args.floors.now.channels.now)
-    (g.J.JobFloor.view c.args.floors.now.jobs.now) (noted g.B.NoteBook.items c.args.frame.now))
-    (at_poll (g.C.ChannelFloor.view c.end_scope_wait.new.floors.channels.now) (g.J.JobFloor.view z)
-    (noted g.B.NoteBook.items c.end_scope_wait.new.frame))) (sym c.end_scope_wait.ensures.jobs)
-    (scope_waited (program_of c.args.script.now) _ _ _ _ _ _ _ (g.met.C.ChannelFloor.legal c.was_resolved.new.channels)
-    (g.met.J.JobFloor.legal c.args.floors.now.jobs.now) c.requires.stands c.requires.leaves c.was_resolved.ensures.seen.looked
-    c.in-Ok.ensures.answer c.end_scope_wait.ensures.tag)) c.go_on.ensures.went
+    (rw (← c.hear.ensures.channels) at
+    (scope_waited (program_of c.args.script.now) _ _ _ _ _ _ _ _ (g.met.C.ChannelFloor.legal c.was_resolved.new.channels)
+    (g.met.J.JobFloor.legal c.hear.new.self.jobs.now) c.requires.stands c.requires.leaves c.was_resolved.ensures.seen.looked
+    c.in-Ok.ensures.answer c.end_scope_wait.ensures.tag
+    ((rw c.end_scope_wait.ensures.jobs at c.hear.ensures.heard) _ c.requires.stands.on.of_jobs))) c.go_on.ensures.went
 
 pub returns-in-Ok-clause-quiet : goal.returns-in-Ok-clause-quiet
 returns-in-Ok-clause-quiet g c = quiet_on _ c.args.script.now _ c.go_on.result
     (g.met.J.JobFloor.legal c.go_on.new.floors.jobs.now) c.requires.stands
-    (subst (λ z. Stepped (program_of c.args.script.now) (at_poll (g.C.ChannelFloor.view c.args.floors.now.channels.now)
-    (g.J.JobFloor.view c.args.floors.now.jobs.now) (noted g.B.NoteBook.items c.args.frame.now))
-    (at_poll (g.C.ChannelFloor.view c.end_scope_wait.new.floors.channels.now) (g.J.JobFloor.view z)
-    (noted g.B.NoteBook.items c.end_scope_wait.new.frame))) (sym c.end_scope_wait.ensures.jobs)
-    (scope_waited (program_of c.args.script.now) _ _ _ _ _ _ _ (g.met.C.ChannelFloor.legal c.was_resolved.new.channels)
-    (g.met.J.JobFloor.legal c.args.floors.now.jobs.now) c.requires.stands c.requires.leaves c.was_resolved.ensures.seen.looked
-    c.in-Ok.ensures.answer c.end_scope_wait.ensures.tag)) c.go_on.ensures.went
+    (rw (← c.hear.ensures.channels) at
+    (scope_waited (program_of c.args.script.now) _ _ _ _ _ _ _ _ (g.met.C.ChannelFloor.legal c.was_resolved.new.channels)
+    (g.met.J.JobFloor.legal c.hear.new.self.jobs.now) c.requires.stands c.requires.leaves c.was_resolved.ensures.seen.looked
+    c.in-Ok.ensures.answer c.end_scope_wait.ensures.tag
+    ((rw c.end_scope_wait.ensures.jobs at c.hear.ensures.heard) _ c.requires.stands.on.of_jobs))) c.go_on.ensures.went
 
 pub returns-in-Err-clause-polled : goal.returns-in-Err-clause-polled
 returns-in-Err-clause-polled g c = cut_scope_wait _ _ _ c.was_resolved.ensures.seen.looked

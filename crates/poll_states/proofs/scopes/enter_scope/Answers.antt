@@ -5,6 +5,7 @@ use Rattle.script_meaning.specs.Bodies.{is_fresh}
 use Rattle.poll_states.specs.Frames.{noted}
 use Rattle.poll_states.proofs.Standing.{line_short, stands_attached}
 use Rattle.poll_states.proofs.LineNeeds.{stands_build}
+use Rattle.poll_states.proofs.Hearing.{told_first}
 use Rattle.poll_states.proofs.Stepping.{cut_jobs, cut_nothing, cut_from}
 use Rattle.poll_states.proofs.WaitsForEnds.{enter_refused_by, has_entered, stands_same, at_same, stepped_from}
 use Rattle.poll_states.proofs.scopes.enter_scope.Goals as goal
@@ -33,30 +34,34 @@ enter-requires-clause-line g c = let h = line_short c.args.script.now c.args.fra
     in omega (arith, h, ap (λ (x : Config). x.line) c.room_to_enter.ensures.config)
 
 pub returns-in-Ok-clause-came : goal.returns-in-Ok-clause-came
-returns-in-Ok-clause-came g c =
-    stepped_from (program_of c.args.script.now) _ _ _ _ (noted g.B.NoteBook.items c.args.frame.now)
+returns-in-Ok-clause-came g c = rw c.tell.ensures.jobs
+    (stepped_from (program_of c.args.script.now) _ _ _ _ (noted g.B.NoteBook.items c.args.frame.now)
     (noted g.B.NoteBook.items c.room_to_enter.new.self) _ c.room_to_enter.ensures.tag c.room_to_enter.ensures.config
     c.room_to_enter.ensures.items
     (has_entered (program_of c.args.script.now)
-    (ap g.C.ChannelFloor.view c.in-Ok.ensures.channels) (g.met.J.JobFloor.legal c.enter-answer.new.self.jobs.now)
+    (told_first (ap g.C.ChannelFloor.view c.in-Ok.ensures.channels)
+    (ap (g.C.ChannelFloor.view c.args.floors.now.channels.now).callers c.room_to_enter.ensures.tag ∙ c.requires.stands.on.of_channels)
+    (c.tell.ensures.told _)) (g.met.J.JobFloor.legal c.enter-answer.new.self.jobs.now)
     (at_same (program_of c.args.script.now) (noted g.B.NoteBook.items c.args.frame.now) (noted g.B.NoteBook.items c.room_to_enter.new.self)
     _ c.room_to_enter.ensures.tag c.room_to_enter.ensures.config c.requires.at) c.innermost-parent.ensures refl c.in-Ok.ensures.answer
-    c.enter.ensures.tag c.enter.ensures.config c.enter.ensures.items)
+    c.enter.ensures.tag c.enter.ensures.config c.enter.ensures.items))
 
 pub returns-in-NoRow-clause-came : goal.returns-in-NoRow-clause-came
-returns-in-NoRow-clause-came g c =
-    stepped_from (program_of c.args.script.now) _ _ _ _ (noted g.B.NoteBook.items c.args.frame.now)
+returns-in-NoRow-clause-came g c = rw c.tell-in-NoRow.ensures.jobs
+    (stepped_from (program_of c.args.script.now) _ _ _ _ (noted g.B.NoteBook.items c.args.frame.now)
     (noted g.B.NoteBook.items c.room_to_enter.new.self) _ c.room_to_enter.ensures.tag c.room_to_enter.ensures.config
     c.room_to_enter.ensures.items
     (enter_refused_by (program_of c.args.script.now) _ _ _ _ _ _ c.in-Err-answer.error c.in-NoRow.is
-    (ap g.C.ChannelFloor.view c.in-Err-answer.ensures.channels) (g.met.J.JobFloor.legal c.args.floors.now.jobs.now)
+    (told_first (ap g.C.ChannelFloor.view c.in-Err-answer.ensures.channels)
+    (ap (g.C.ChannelFloor.view c.args.floors.now.channels.now).callers c.room_to_enter.ensures.tag ∙ c.requires.stands.on.of_channels)
+    (c.tell-in-NoRow.ensures.told _)) (g.met.J.JobFloor.legal c.args.floors.now.jobs.now)
     (g.met.J.JobFloor.legal c.enter-answer.new.self.jobs.now)
     (stands_same (program_of c.args.script.now) _ _ (noted g.B.NoteBook.items c.args.frame.now)
     (noted g.B.NoteBook.items c.room_to_enter.new.self) c.room_to_enter.ensures.tag c.room_to_enter.ensures.config
     c.room_to_enter.ensures.items c.requires.stands)
     (at_same (program_of c.args.script.now) (noted g.B.NoteBook.items c.args.frame.now) (noted g.B.NoteBook.items c.room_to_enter.new.self)
     _ c.room_to_enter.ensures.tag c.room_to_enter.ensures.config c.requires.at) c.innermost-parent.ensures
-    c.in-Err-answer.ensures.answer c.fail.ensures.tag c.fail.ensures.config c.fail.ensures.items)
+    c.in-Err-answer.ensures.answer c.fail.ensures.tag c.fail.ensures.config c.fail.ensures.items))
 
 pub returns-in-Memory-clause-came : goal.returns-in-Memory-clause-came
 returns-in-Memory-clause-came g c =

@@ -2,6 +2,7 @@ use Rattle.std.proofs.Common.{refl, ap, inl, inr}
 use Rattle.script_reader.specs.Scripts.{program_of}
 use Rattle.poll_states.specs.Frames.{noted}
 use Rattle.poll_states.proofs.LineNeeds.{stands_build}
+use Rattle.poll_states.proofs.Hearing.{told_first}
 use Rattle.poll_states.proofs.Stepping.{cut_jobs}
 use Rattle.poll_states.proofs.WaitsForEnds.{saw_scope, not_yet_seen}
 use Rattle.poll_states.proofs.EndsNamed.{sees_in_scope, seen_attached, scope_to_see, scope_opens}
@@ -23,10 +24,11 @@ pub leave_ended-requires-clause-opens : goal.leave_ended-requires-clause-opens
 leave_ended-requires-clause-opens g c = scope_opens (program_of c.args.script.now) _ _ _ c.in-Some.scope c.requires.stands c.in-Some.ensures
 
 pub returns-in-Ok-Some-clause-came : goal.returns-in-Ok-Some-clause-came
-returns-in-Ok-Some-clause-came g c = inl (saw_scope (program_of c.args.script.now) _ _ _ _ c.in-Some.scope _
-    (ap g.C.ChannelFloor.view c.in-Ok-Some.ensures.channels) (g.met.J.JobFloor.legal c.seen_end.new.self.jobs.now) c.requires.stands
+returns-in-Ok-Some-clause-came g c = rw c.tell.ensures.jobs (inl (saw_scope (program_of c.args.script.now) _ _ _ _ c.in-Some.scope _
+    (told_first (ap g.C.ChannelFloor.view c.in-Ok-Some.ensures.channels)
+    c.requires.stands.on.of_channels (c.tell.ensures.told _)) (g.met.J.JobFloor.legal c.seen_end.new.self.jobs.now) c.requires.stands
     c.requires.sees c.in-Some.ensures (rw c.in-Ok-Some.field-0-is at c.in-Ok-Some.ensures.answer) c.leave_ended.ensures.tag
-    c.leave_ended.ensures.config c.leave_ended.ensures.items)
+    c.leave_ended.ensures.config c.leave_ended.ensures.items))
 
 pub returns-in-Ok-None-clause-came : goal.returns-in-Ok-None-clause-came
 returns-in-Ok-None-clause-came g c = inr (not_yet_seen

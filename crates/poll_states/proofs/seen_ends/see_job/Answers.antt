@@ -2,6 +2,7 @@ use Rattle.std.proofs.Common.{refl, ap, arith}
 use Rattle.script_reader.specs.Scripts.{program_of}
 use Rattle.poll_states.proofs.Standing.{line_short}
 use Rattle.poll_states.proofs.LineNeeds.{stands_build}
+use Rattle.poll_states.proofs.Hearing.{told_first}
 use Rattle.poll_states.proofs.Stepping.{cut_jobs}
 use Rattle.poll_states.proofs.WaitsForEnds.{saw_job, not_yet_seen}
 use Rattle.poll_states.proofs.EndsNamed.{awaits_named, seen_attached}
@@ -25,10 +26,11 @@ go_on_job_ended-requires g c = let h = line_short c.args.script.now c.args.frame
     c.requires.sees).line_is in omega (arith, h)
 
 pub returns-in-Ok-Some-clause-came : goal.returns-in-Ok-Some-clause-came
-returns-in-Ok-Some-clause-came g c = inl (saw_job (program_of c.args.script.now) _ _ _ _ _ _
-    (ap g.C.ChannelFloor.view c.in-Ok-Some.ensures.channels) (g.met.J.JobFloor.legal c.seen_end.new.self.jobs.now) c.requires.stands
+returns-in-Ok-Some-clause-came g c = rw c.tell.ensures.jobs (inl (saw_job (program_of c.args.script.now) _ _ _ _ _ _
+    (told_first (ap g.C.ChannelFloor.view c.in-Ok-Some.ensures.channels)
+    c.requires.stands.on.of_channels (c.tell.ensures.told _)) (g.met.J.JobFloor.legal c.seen_end.new.self.jobs.now) c.requires.stands
     c.requires.sees c.awaited-row.ensures (rw c.in-Ok-Some.field-0-is at c.in-Ok-Some.ensures.answer) c.go_on_job_ended.ensures.tag
-    c.go_on_job_ended.ensures.config c.go_on_job_ended.ensures.items)
+    c.go_on_job_ended.ensures.config c.go_on_job_ended.ensures.items))
 
 pub returns-in-Ok-None-clause-came : goal.returns-in-Ok-None-clause-came
 returns-in-Ok-None-clause-came g c = inr (not_yet_seen

@@ -21,14 +21,14 @@ select_poll-answer-requires-clause-may g c =
     ∙ behind_select (program_of c.args.script.now) (noted g.B.NoteBook.items c.args.frame.now) _ c.code_of-code.ensures)
 
 pub returns-in-Ok-clause-came : goal.returns-in-Ok-clause-came
-returns-in-Ok-clause-came g c =
-    has_selected (program_of c.args.script.now) _ _ (noted g.B.NoteBook.items c.go_on_selected.new.self) _ _ c.in-Ok.answer
-    c.args.script.now.well_formed
-    (g.met.J.JobFloor.legal c.args.floors.now.jobs.now) c.requires.at
+returns-in-Ok-clause-came g c = rw c.hear.ensures.channels
+    (has_selected (program_of c.args.script.now) _ _ _ (noted g.B.NoteBook.items c.go_on_selected.new.self) _ _ c.in-Ok.answer
+    (c.hear.ensures.heard _ c.requires.stands.on.of_jobs) c.args.script.now.well_formed
+    (g.met.J.JobFloor.legal c.hear.new.self.jobs.now) c.requires.at
     (ap calls_of c.as_slice.ensures.value ∙ c.clauses_of-clauses.ensures
     ∙ behind_select (program_of c.args.script.now) (noted g.B.NoteBook.items c.args.frame.now) _ c.code_of-code.ensures)
     c.in-Ok.ensures.answer c.in-Ok.ensures.same.who c.go_on_selected.ensures.tag c.go_on_selected.ensures.config
-    c.go_on_selected.ensures.items
+    c.go_on_selected.ensures.items)
 
 pub returns-in-Err-clause-came : goal.returns-in-Err-clause-came
 returns-in-Err-clause-came g c = cut_told _ refl refl c.in-Err.ensures.answer

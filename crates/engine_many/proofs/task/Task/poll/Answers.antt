@@ -12,7 +12,7 @@ invariant_of-task g c =
           (frame_of c.self.inside.frame.value.value) (frame_of c.poll_on.new.frame) c.requires c.args.script.now.well_formed
           (g.met.J.JobFloor.legal c.poll_on.new.jobs) p.stands.on p.polled c.self.invariant.0,
       tags_polled g.N.ScriptName.program _ _ _ _ _ _ p.polled.tag (ap g.C.SharedChannels.may_act c.poll_on.ensures.channels_anchor)
-          (ap g.J.SharedJobs.may_act c.poll_on.ensures.jobs_anchor) c.self.invariant.1,
+          (ap g.J.SharedBeside.may_act_beside c.poll_on.ensures.channels_anchor) c.self.invariant.1,
     )
 
 pub returns-clause-keeps : goal.returns-clause-keeps
