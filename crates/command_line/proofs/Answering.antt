@@ -17,11 +17,9 @@ use Rattle.job_model.specs.declared.acts.End.{End}
 use Rattle.job_model.specs.declared.acts.End.TheVariants as ends
 use Rattle.job_model.specs.declared.acts.JobEntry.{JobEntry}
 use Rattle.note_book.specs.declared.book.Item.{Item}
-use Rattle.run_laws.specs.Ends.{IsRunAtRest}
-use Rattle.run_laws.specs.Orders.{InOneOrder}
-use Rattle.run_claims.specs.Runs.{RunsTo, HasOneOrder}
+use Rattle.run_laws.specs.Ends.{IsRunInOneOrder}
+use Rattle.run_claims.specs.Runs.{RunsTo}
 use Rattle.run_claims.proofs.RunsAtRest.{ran}
-use Rattle.command_line.specs.Commands.{workers_asked}
 use Rattle.command_line.specs.Statuses.{Refuses, ReportsRun, Serves, Stream, SumsUp, ending_of}
 use Rattle.command_line.specs.Preparing.{Asks, GaveScript, text_of}
 use Rattle.command_line.specs.declared.words.Command.{Command}
@@ -64,31 +62,20 @@ refused fault input text known read spelled is = record {
 -- ---- a report
 
 -- the report of a run answers its script
-reported : (workers : ℕ) (p : Program) (source source' : Stream) (root : Option End) (text : List ℕ) (gave : GaveScript source source' p)
-    (run : RunsTo root p) → text ≡ report_text p run.books → (workers ≡ 1 → HasOneOrder run)
-    → ReportsRun workers (ending_of root) gave.input text
-reported workers p source source' root text gave run is order = record {
-  root = root;
-  ending = refl;
-  reports = record { program = p; spelled = gave.spelled; run = run; is_report = is };
-  one_order = order;
-}
+reported : (p : Program) (source source' : Stream) (root : Option End) (text : List ℕ) (gave : GaveScript source source' p)
+    (run : RunsTo root p) → text ≡ report_text p run.books → ReportsRun (ending_of root) gave.input text
+reported p source source' root text gave run is =
+    record { root = root; ending = refl; reports = record { program = p; spelled = gave.spelled; run = run; is_report = is } }
 
 -- the summary of a run of the generated script is one of its size
-summed : (p : Program) (size workers : ℕ) (root : Option End) (text : List ℕ) → p ≡ generated size → (run : RunsTo root p)
-    → text ≡ summary_text p run.books → (workers ≡ 1 → HasOneOrder run) → SumsUp size workers (ending_of root) text
-summed p size workers root text e =
-    subst (λ q. (run : RunsTo root q) → text ≡ summary_text q run.books → (workers ≡ 1 → HasOneOrder run)
-    → SumsUp size workers (ending_of root) text) (sym e)
-    (λ run is order. record { root = root; ending = refl; run = run; is_summary = is; one_order = order })
-
--- a run that came to rest; by one worker, its histories have one order
-abbrev pub RestsBy : ℕ → Program → List (List Item) → List Entry → List JobEntry → Option End → Type 0
-RestsBy workers p books channels jobs root =
-    (rest : IsRunAtRest p books channels jobs root) × (workers ≡ 1 → InOneOrder p books channels jobs rest.0)
+summed : (p : Program) (size : ℕ) (root : Option End) (text : List ℕ) → p ≡ generated size → (run : RunsTo root p)
+    → text ≡ summary_text p run.books → SumsUp size (ending_of root) text
+summed p size root text e =
+    subst (λ q. (run : RunsTo root q) → text ≡ summary_text q run.books → SumsUp size (ending_of root) text) (sym e)
+    (λ run is. record { root = root; ending = refl; run = run; is_summary = is })
 
 pub answered : (command : Command) (p : Program) (books : List (List Item)) (channels : List Entry) (jobs : List JobEntry)
-    (root : Option End) (made : List ℕ) (source source' : Stream) → RestsBy (workers_asked command) p books channels jobs root
+    (root : Option End) (made : List ℕ) (source source' : Stream) → IsRunInOneOrder p books channels jobs root
     → made ≡ text_of command p books → Asks command source source' p → Serves command (ending_of root) source source' (λ text. made ≡ text)
 answered (Run workers) p books channels jobs None made source source' of is asks =
     record {
@@ -96,7 +83,7 @@ answered (Run workers) p books channels jobs None made source source' of is asks
       given = asks.given;
       all = asks.all;
       text = made;
-      answers = reported workers p source source' None made asks (ran p books channels jobs None of.0) is of.1;
+      answers = reported p source source' None made asks (ran p books channels jobs None of) is;
       taken = refl;
     }
 answered (Run workers) p books channels jobs (Some (ends.Completed v)) made source source' of is asks =
@@ -105,8 +92,8 @@ answered (Run workers) p books channels jobs (Some (ends.Completed v)) made sour
       given = asks.given;
       all = asks.all;
       text = made;
-      answers = reported workers p source source' (Some (ends.Completed v)) made asks
-          (ran p books channels jobs (Some (ends.Completed v)) of.0) is of.1;
+      answers = reported p source source' (Some (ends.Completed v)) made asks
+          (ran p books channels jobs (Some (ends.Completed v)) of) is;
       taken = refl;
     }
 answered (Run workers) p books channels jobs (Some (ends.Cancelled cause)) made source source' of is asks =
@@ -115,8 +102,8 @@ answered (Run workers) p books channels jobs (Some (ends.Cancelled cause)) made 
       given = asks.given;
       all = asks.all;
       text = made;
-      answers = reported workers p source source' (Some (ends.Cancelled cause)) made asks
-          (ran p books channels jobs (Some (ends.Cancelled cause)) of.0) is of.1;
+      answers = reported p source source' (Some (ends.Cancelled cause)) made asks
+          (ran p books channels jobs (Some (ends.Cancelled cause)) of) is;
       taken = refl;
     }
 answered Check p books channels jobs root made source source' of is asks = absurd asks
@@ -124,27 +111,26 @@ answered (Sum size workers) p books channels jobs None made source source' of is
     record {
       unread = asks.1;
       text = made;
-      answers = summed p size workers None made asks.0 (ran p books channels jobs None of.0) is of.1;
+      answers = summed p size None made asks.0 (ran p books channels jobs None of) is;
       taken = refl;
     }
 answered (Sum size workers) p books channels jobs (Some (ends.Completed v)) made source source' of is asks =
     record {
       unread = asks.1;
       text = made;
-      answers = summed p size workers (Some (ends.Completed v)) made asks.0 (ran p books channels jobs (Some (ends.Completed v)) of.0) is
-          of.1;
+      answers = summed p size (Some (ends.Completed v)) made asks.0 (ran p books channels jobs (Some (ends.Completed v)) of) is;
       taken = refl;
     }
 answered (Sum size workers) p books channels jobs (Some (ends.Cancelled cause)) made source source' of is asks =
     record {
       unread = asks.1;
       text = made;
-      answers = summed p size workers (Some (ends.Cancelled cause)) made asks.0
-          (ran p books channels jobs (Some (ends.Cancelled cause)) of.0) is of.1;
+      answers = summed p size (Some (ends.Cancelled cause)) made asks.0
+          (ran p books channels jobs (Some (ends.Cancelled cause)) of) is;
       taken = refl;
     }
 
 -- a run whose books are seen as their notes
-pub tallied_rest : (workers : ℕ) (p : Program) (books : List (List Item)) (channels : List Entry) (jobs : List JobEntry) (root : Option End)
-    → RestsBy workers p (map (λ notes. notes) books) channels jobs root → RestsBy workers p books channels jobs root
-tallied_rest workers p books channels jobs root h = subst (λ all. RestsBy workers p all channels jobs root) (map-id books) h
+pub tallied_rest : (p : Program) (books : List (List Item)) (channels : List Entry) (jobs : List JobEntry) (root : Option End)
+    → IsRunInOneOrder p (map (λ notes. notes) books) channels jobs root → IsRunInOneOrder p books channels jobs root
+tallied_rest p books channels jobs root h = subst (λ all. IsRunInOneOrder p all channels jobs root) (map-id books) h

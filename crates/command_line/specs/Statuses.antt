@@ -11,7 +11,7 @@ use Rattle.script_grammar.specs.Canonical.{canonical_text}
 use Rattle.script_grammar.specs.Generated.{generated}
 use Rattle.run_report.specs.Faults.{fault_text}
 use Rattle.run_report.specs.Summaries.{summary_text}
-use Rattle.run_claims.specs.Runs.{RunsTo, HasOneOrder}
+use Rattle.run_claims.specs.Runs.{RunsTo}
 use Rattle.run_claims.specs.Reports.{Reports}
 use Rattle.command_line.specs.declared.words.Command.{Command}
 use Rattle.command_line.specs.declared.words.Command.TheVariants.{Run, Check, Sum}
@@ -47,22 +47,18 @@ ending_of None = ending.Unfinished
 ending_of (Some (ends.Completed v)) = ending.Completed
 ending_of (Some (ends.Cancelled cause)) = ending.Cancelled
 
--- the input is a script, and the text the report of a run of it by so many workers, which ended so
-pub record ReportsRun (workers : ℕ) (how : Ending) (input text : List ℕ) : Type 0 where
+-- the input is a script, and the text the report of a run of it, which ended so
+pub record ReportsRun (how : Ending) (input text : List ℕ) : Type 0 where
   pub root : Option End
   pub ending : ending_of root ≡ how
   pub reports : Reports root input text
-  -- a run by one worker has one order of all entries
-  pub one_order : workers ≡ 1 → HasOneOrder reports.run
 
--- the text is the summary of a run of the generated script of this size by so many workers, which ended so
-pub record SumsUp (size workers : ℕ) (how : Ending) (text : List ℕ) : Type 0 where
+-- the text is the summary of a run of the generated script of this size, which ended so
+pub record SumsUp (size : ℕ) (how : Ending) (text : List ℕ) : Type 0 where
   pub root : Option End
   pub ending : ending_of root ≡ how
   pub run : RunsTo root (generated size)
   pub is_summary : text ≡ summary_text (generated size) run.books
-  -- a run by one worker has one order of all entries
-  pub one_order : workers ≡ 1 → HasOneOrder run
 
 -- the input is a script, and the text its canonical form
 pub record Prints (input text : List ℕ) : Type 0 where
@@ -77,10 +73,10 @@ pub record Refuses (input text : List ℕ) : Type 0 where
   pub no_script : (p : Program) → Spells input p → ⊥
   pub is_line : text ≡ fault_text fault
 
--- what a text says that answers an input by a run of it by so many workers
-abbrev pub Ran : ℕ → Ending → List ℕ → List ℕ → Type 0
-Ran workers ending.NoScript input text = Refuses input text
-Ran workers how input text = ReportsRun workers how input text
+-- what a text says that answers an input by a run of it
+abbrev pub Ran : Ending → List ℕ → List ℕ → Type 0
+Ran ending.NoScript input text = Refuses input text
+Ran how input text = ReportsRun how input text
 
 -- what a text says that answers an input by its canonical form
 abbrev pub Checked : Ending → List ℕ → List ℕ → Type 0
@@ -89,10 +85,10 @@ Checked ending.Cancelled input text = ⊥
 Checked ending.Unfinished input text = ⊥
 Checked ending.NoScript input text = Refuses input text
 
--- what a text says of a sum by so many workers
-abbrev pub Added : ℕ → ℕ → Ending → List ℕ → Type 0
-Added size workers ending.NoScript text = ⊥
-Added size workers how text = SumsUp size workers how text
+-- what a text says of a sum
+abbrev pub Added : ℕ → Ending → List ℕ → Type 0
+Added size ending.NoScript text = ⊥
+Added size how text = SumsUp size how text
 
 -- ---- what a status says of the call
 
@@ -121,11 +117,11 @@ pub record ServesAlone (Answers : List ℕ → Type 0) (source source' : Stream)
   pub answers : Answers text
   pub taken : IsTaken text
 
--- the text that a command makes, where it ends so
+-- the text that a command makes, where it ends so; what it says is the same for every number of workers
 abbrev pub Serves : Command → Ending → Stream → Stream → (List ℕ → Type 0) → Type 0
-Serves (Run workers) how source source' IsTaken = ServesInput (Ran workers how) source source' IsTaken
+Serves (Run workers) how source source' IsTaken = ServesInput (Ran how) source source' IsTaken
 Serves Check how source source' IsTaken = ServesInput (Checked how) source source' IsTaken
-Serves (Sum size workers) how source source' IsTaken = ServesAlone (Added size workers how) source source' IsTaken
+Serves (Sum size workers) how source source' IsTaken = ServesAlone (Added size how) source source' IsTaken
 
 -- the text was written, whole
 abbrev pub Writes : Option Command → Ending → Stream → Stream → Stream → Stream → Type 0

@@ -16,8 +16,7 @@ use crate::writing::end;
 use co_base::{Gate, Sink, Source};
 use std::alloc::Global;
 
-/// Does what the words ask for, as `coroutine_main`, in the calling thread. Words that ask for a second worker are refused. So each run
-/// is one by one worker: the books are parts of one order of both histories (`one_order` of `ReportsRun` and `SumsUp`).
+/// Does what the words ask for, as `coroutine_main`, in the calling thread. Words that ask for a second worker are refused.
 pub fn coroutine_main_alone<S: Source, K: Sink, G: Gate>(
     alloc: Global,
     words: &[String],

@@ -3,8 +3,7 @@
 ghost use Rattle.std.specs.Prelude.{◌≡◌, IfOk, map};
 ghost use Rattle.note_book.specs.Books.{notes_of};
 ghost use Rattle.script_reader.specs.Scripts.{program_of};
-ghost use Rattle.command_line.specs.Commands.{workers_asked};
-ghost use Rattle.command_line.specs.Runs.{LeftBy};
+ghost use Rattle.command_line.specs.Runs.{LeftInOneOrder};
 ghost use Rattle.command_line.specs.Statuses.{ending_of};
 ghost use Rattle.command_line.specs.declared.words.Command.TheVariants.{Sum};
 ghost use Rattle.command_line.specs.Preparing.{IsAnswerOf, text_of};
@@ -34,7 +33,7 @@ pub fn answer_of(
     script: &Script,
     done: &Done<Notes>,
 ) -> Result<Answer, Memory>
-    requires { LeftBy (workers_asked command) notes_of (program_of script.now) done.now }
+    requires { LeftInOneOrder notes_of (program_of script.now) done.now }
     ensures { IfOk result (IsAnswerOf command (program_of script.now)) }
 {
     let text = text_of(alloc, command, script, done)?;
@@ -50,7 +49,7 @@ pub fn sum_of(
     script: &Script,
     done: &Done<Tally>,
 ) -> Result<Answer, Memory>
-    requires { LeftBy workers (λ notes. notes) (program_of script.now) done.now }
+    requires { LeftInOneOrder (λ notes. notes) (program_of script.now) done.now }
     ensures { IfOk result (IsAnswerOf (Sum size workers) (program_of script.now)) }
 {
     let text = tally_book::summary(alloc, script, done.books.as_slice(), done.end)?;

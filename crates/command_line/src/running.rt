@@ -1,11 +1,11 @@
 //! The run of a script, by one worker or several.
 
-ghost use Rattle.std.specs.Prelude.{◌≢◌, ◌≤◌, ℕ, IfOk};
+ghost use Rattle.std.specs.Prelude.{◌≤◌, IfOk};
 ghost use Rattle.script_reader.specs.Scripts.{program_of};
 ghost use Rattle.engine_many.specs.WordRuns.{CameToRest as CameToRestOverWords};
 ghost use Rattle.engine_one.specs.Runs.{CameToRest};
 ghost use Rattle.command_line.specs.Commands.{IsInLimits};
-ghost use Rattle.command_line.specs.Runs.{LeftBy};
+ghost use Rattle.command_line.specs.Runs.{LeftInOneOrder};
 ghost use Rattle.command_line.specs.Preparing.{IsAnswerOf};
 
 use crate::answer::{Answer, answer_of, sum_of};
@@ -75,7 +75,7 @@ fn run_together<B: Book + Send, R: Threads + Wait + Sync, G: Gate + Sync>(
     gate: &G,
 ) -> Result<Done<B>, Memory>
     requires { (1 ≤ workers) × (workers ≤ 16) }
-    ensures { IfOk result (λ done. LeftBy workers B.items (program_of script.now) done) }
+    ensures { IfOk result (LeftInOneOrder B.items (program_of script.now)) }
 {
     if workers == 1 {
         return run_alone(alloc, script, gate);
@@ -84,9 +84,9 @@ fn run_together<B: Book + Send, R: Threads + Wait + Sync, G: Gate + Sync>(
     Ok(left_over_words(script, run))
 }
 
-/// Runs the script in the calling thread until no coroutine can go on. Its histories have one order, however many workers were asked for.
+/// Runs the script in the calling thread until no coroutine can go on.
 fn run_alone<B: Book, G: Gate>(alloc: Global, script: &Script, gate: &G) -> Result<Done<B>, Memory>
-    ensures { IfOk result (λ done. (workers : ℕ) → LeftBy workers B.items (program_of script.now) done) }
+    ensures { IfOk result (LeftInOneOrder B.items (program_of script.now)) }
 {
     let run = run_one(alloc, script, gate)?;
     Ok(left_of(script, run))
@@ -95,7 +95,7 @@ fn run_alone<B: Book, G: Gate>(alloc: Global, script: &Script, gate: &G) -> Resu
 /// What a run over lists leaves, without its channels and Jobs.
 fn left_of<B: Book>(script: &Script, run: ListRun<B>) -> Done<B>
     requires { CameToRest B.items (program_of script.now) run }
-    ensures { (workers : ℕ) → LeftBy workers B.items (program_of script.now) result }
+    ensures { LeftInOneOrder B.items (program_of script.now) result }
 {
     let ListRun {
         done,
@@ -108,7 +108,7 @@ fn left_of<B: Book>(script: &Script, run: ListRun<B>) -> Done<B>
 /// What a run over words leaves, without its channels and Jobs.
 fn left_over_words<B: Book>(script: &Script, run: WordRun<B>) -> Done<B>
     requires { CameToRestOverWords B.items (program_of script.now) run }
-    ensures { (workers : ℕ) → workers ≢ 1 → LeftBy workers B.items (program_of script.now) result }
+    ensures { LeftInOneOrder B.items (program_of script.now) result }
 {
     let WordRun {
         done,

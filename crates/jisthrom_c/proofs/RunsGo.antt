@@ -58,11 +58,11 @@ abbrev sink_with : List ℕ → ℕ → Stream
 sink_with held faults = stream (Some held) faults
 
 answers : (how : Ending) (script left held : List ℕ)
-    → (h : ServesInput (Ran 1 how) (source_with (take 1048577 script)) (source_with left) (λ text. held ≡ [] ++ text))
+    → (h : ServesInput (Ran how) (source_with (take 1048577 script)) (source_with left) (λ text. held ≡ [] ++ text))
     → Answers how script held
 answers how script left held h =
-    subst (λ (l : List ℕ). Ran 1 how l held) (read_whole script h.input left h.given h.all)
-    (subst (λ (l : List ℕ). Ran 1 how h.input l) (sym h.taken) h.answers)
+    subst (λ (l : List ℕ). Ran how l held) (read_whole script h.input left h.given h.all)
+    (subst (λ (l : List ℕ). Ran how h.input l) (sym h.taken) h.answers)
 
 -- a number that is at most 4 is that of an ending, and the sink then holds the text that answers the script
 by_status : (s : Status) (n : ℕ) (script left held : List ℕ) (f g : ℕ) → n ≡ number_of s → n ≤ 4

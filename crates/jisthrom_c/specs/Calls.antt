@@ -6,10 +6,10 @@ use Rattle.command_line.specs.declared.status.Status.{Status}
 use Rattle.command_line.specs.declared.status.Status.TheVariants as status
 use Rattle.command_line.specs.Statuses.{Ran}
 
--- the text is the report of a run by one worker that ended so, or the line of the first fault; of a script that is too long, its first
+-- the text is the report of a run that ended so, or the line of the first fault; of a script that is too long, its first
 -- 1,048,577 bytes are read
 abbrev pub Answers : Ending → List ℕ → List ℕ → Type 0
-Answers how script text = Ran 1 how (take 1048577 script) text
+Answers how script text = Ran how (take 1048577 script) text
 
 -- the text is written at the front of the room, and what lies behind it is as it was
 pub record IsWritten (text old new : List ℕ) : Type 0 where

@@ -6,7 +6,8 @@ use mathlib.Core.List.{IsPrefix}
 use Rattle.note_book.specs.declared.book.Item.{Item}
 use Rattle.call_meaning.specs.Telling.{Told, note, on_channels, on_jobs, items_in}
 use Rattle.call_meaning.specs.Stories.{Story}
-use Rattle.run_laws.specs.Orders.{Side, IsSoAlong, IsTrueAlong}
+use Rattle.co_base.specs.Orders.{Side}
+use Rattle.call_meaning.specs.Orders.{IsSoAlong, IsTrueAlong}
 use Rattle.run_laws.proofs.Prefixes.{prefix_then}
 
 -- ---- two points
@@ -14,7 +15,7 @@ use Rattle.run_laws.proofs.Prefixes.{prefix_then}
 same_first : {A : Type 0} (x y : A) (xs ys : List A) → x ∷ xs ≡ y ∷ ys → x ≡ y
 same_first x y xs ys e = cc
 
-same_rest : {A : Type 0} (x y : A) (xs ys : List A) → x ∷ xs ≡ y ∷ ys → xs ≡ ys
+pub same_rest : {A : Type 0} (x y : A) (xs ys : List A) → x ∷ xs ≡ y ∷ ys → xs ≡ ys
 same_rest x y xs ys e = cc
 
 pub either_first : {A : Type 0} (xs ys zs : List A) → IsPrefix xs zs → IsPrefix ys zs → IsPrefix xs ys ⊎ IsPrefix ys xs
@@ -67,3 +68,14 @@ noted_at s order items earlier (on_channels fact ∷ told) before i after e (at,
 noted_at s order items earlier (on_jobs fact ∷ told) before i after e (at, so, rest) =
     let r = noted_at s order items at told before i after e rest in
     (r.0, sooner s order (items ++ before) earlier at (note i) r.0 so.not_before r.1)
+
+-- what was told after these
+pub along_rest : (s : Story) (order : List Side) (items : List Item) (earlier : List Side) (xs ys : List Told)
+    → IsTrueAlong s order items earlier (xs ++ ys) → (point : List Side) × IsTrueAlong s order (items ++ items_in xs) point ys
+unfolding items_in IsTrueAlong
+along_rest s order items earlier [] ys t = (earlier, subst (λ l. IsTrueAlong s order l earlier ys) (sym (append-nil items)) t)
+along_rest s order items earlier (note i ∷ xs) ys (at, so, rest) =
+    let r = along_rest s order (items ++ i ∷ []) at xs ys rest in
+    (r.0, subst (λ l. IsTrueAlong s order l r.0 ys) (append_assoc items (i ∷ []) (items_in xs)) r.1)
+along_rest s order items earlier (on_channels fact ∷ xs) ys (at, so, rest) = along_rest s order items at xs ys rest
+along_rest s order items earlier (on_jobs fact ∷ xs) ys (at, so, rest) = along_rest s order items at xs ys rest

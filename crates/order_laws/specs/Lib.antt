@@ -1,1 +1,4 @@
 pub mod StaleAnswers
+pub mod WrongResults
+pub mod BrokenScopes
+pub mod LateReceives

@@ -15,7 +15,7 @@ use Rattle.script_grammar.specs.Programs.{Program}
 use Rattle.script_meaning.specs.Shapes.{floor_shape, job_shape}
 use Rattle.script_meaning.specs.Books.{BooksOf}
 use Rattle.script_meaning.specs.Idle.{IsIdle}
-use Rattle.run_laws.specs.Ends.{IsRunAtRest}
+use Rattle.run_laws.specs.Ends.{IsRunInOneOrder}
 use Rattle.tally_laws.proofs.WaitsSettled.{none_lost}
 use Rattle.tally_laws.proofs.Printed.{printed, printed_jobs}
 use Rattle.run_claims.specs.Runs.{RunsTo, IsRunOf, AreServed, ChildrenEndFirst}
@@ -41,24 +41,24 @@ served p books channels jobs root of idle = record {
 }
 
 abbrev pub ran : (p : Program) (books : List (List Item)) (channels : List Entry) (jobs : List JobEntry) (root : Option End)
-    → IsRunAtRest p books channels jobs root → RunsTo root p
-ran p books channels jobs root rest = record {
+    → IsRunInOneOrder p books channels jobs root → RunsTo root p
+ran p books channels jobs root run = record {
   books = books;
   channels = channels;
   jobs = jobs;
-  parts = rest.0;
-  idle = rest.1;
-  served = served p books channels jobs root rest.0 rest.1;
-  children_first = children_first p jobs rest.0.legal_jobs;
-  told = printed p books channels jobs rest.0;
-  jobs_told = printed_jobs p books channels jobs rest.0;
+  parts = run.0.0;
+  one_order = run.1;
+  idle = run.0.1;
+  served = served p books channels jobs root run.0.0 run.0.1;
+  children_first = children_first p jobs run.0.0.legal_jobs;
+  told = printed p books channels jobs run.0.0;
+  jobs_told = printed_jobs p books channels jobs run.0.0;
 }
 
 pub is_run_of : (p : Program) (books : List (List Item)) (channels : List Entry) (jobs : List JobEntry) (root : Option End)
-    → (rest : IsRunAtRest p books channels jobs root) → IsRunOf p books channels jobs root rest (ran p books channels jobs root rest)
-is_run_of p books channels jobs root rest = record {
+    → (run : IsRunInOneOrder p books channels jobs root) → IsRunOf p books channels jobs root (ran p books channels jobs root run)
+is_run_of p books channels jobs root run = record {
   books_are = refl;
   channels_are = refl;
   jobs_are = refl;
-  one_order = λ h. h;
 }

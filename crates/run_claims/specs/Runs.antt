@@ -20,7 +20,6 @@ use Rattle.script_grammar.specs.Programs.{Program}
 use Rattle.script_meaning.specs.Books.{BooksOf}
 use Rattle.script_meaning.specs.Idle.{IsIdle}
 use Rattle.run_laws.specs.Orders.{InOneOrder}
-use Rattle.run_laws.specs.Ends.{IsRunAtRest}
 use Rattle.run_report.specs.Elements.{channel_acts_noted, element_of}
 use Rattle.run_report.specs.Jobs.{job_acts_noted}
 use Rattle.tally_laws.specs.JobsTold.{AreToldOf}
@@ -48,12 +47,16 @@ pub record AreServed (channels : List Entry) : Type 0 where
       → (fate_at c place (acts_in channels) ≡ fate.Held) ↔ (stands_in place value ((replay channels).channels c).queue ≡ true)
 
 -- a run of the program came to rest, and left the books of its coroutines: the parts of one legal history of channels and of
--- one of Jobs; the root has ended so, if it has
+-- one of Jobs, whose entries have one order; the root has ended so, if it has
 pub record RunsTo (root : Option End) (program : Program) : Type 0 where
   pub books : List (List Item)
   pub channels : List Entry
   pub jobs : List JobEntry
   pub parts : BooksOf program books channels jobs
+  -- along one order of all entries each coroutine told its story: a moment is a beginning of this order. That each book is one that its
+  -- coroutine may write, where a moment is a beginning of each history (`runs` of `parts`), follows from it: the law
+  -- `a_story_along_an_order_is_true` of `run_laws`
+  pub one_order : InOneOrder program books channels jobs parts
   pub idle : IsIdle program books channels jobs parts root
   -- what follows is implied by `parts` and `idle`
   pub served : AreServed channels
@@ -64,16 +67,11 @@ pub record RunsTo (root : Option End) (program : Program) : Type 0 where
   -- and of each Job how far it is, or how it ended, in the tree after the history
   pub jobs_told : AreToldOf (job_acts_noted books) (replay_jobs jobs)
 
--- the entries of both its histories have one order, along which each coroutine told its story
-abbrev pub HasOneOrder : {root : Option End} {program : Program} → RunsTo root program → Type 0
-HasOneOrder {root} {program} run = InOneOrder program run.books run.channels run.jobs run.parts
-
 -- ---- which run
 
--- the run left these books and histories, and has one order if they have
+-- the run left these books and histories
 pub record IsRunOf (program : Program) (books : List (List Item)) (channels : List Entry) (jobs : List JobEntry) (root : Option End)
-    (rest : IsRunAtRest program books channels jobs root) (run : RunsTo root program) : Type 0 where
+    (run : RunsTo root program) : Type 0 where
   pub books_are : run.books ≡ books
   pub channels_are : run.channels ≡ channels
   pub jobs_are : run.jobs ≡ jobs
-  pub one_order : InOneOrder program books channels jobs rest.0 → HasOneOrder run

@@ -1,5 +1,5 @@
-use Rattle.order_laws.proofs.StaleAnswers.{no_order}
+use Rattle.order_laws.proofs.StaleAnswers.{stale_without_order}
 use Rattle.order_laws.proofs.laws.a_stale_answer_is_refused_in_one_order.Goals as goal
 
 pub returns : goal.returns
-returns c = no_order
+returns c = stale_without_order
