@@ -1,6 +1,6 @@
 -- What is printed of the ends of a script.
-use Rattle.std.specs.Prelude.{◌≡◌, ◌==◌, ℕ, ◌+◌, ◌<◌, ◌≤◌, if◌then◌else◌, Bool, true, false, List, [], ◌∷◌, ◌++◌, length, Option, Some, None, is_none, is_some, slice_get}
-use Rattle.std.specs.List.{flat_map}
+use Rattle.std.specs.Prelude.{◌≡◌, ◌==◌, ℕ, ◌+◌, ◌<◌, ◌≤◌, if◌then◌else◌, Bool, true, false, List, [], ◌∷◌, ◌++◌, length, Option, Some, None, is_none, is_some, nat_lt, slice_get}
+use Rattle.std.specs.List.{ends_with, flat_map, list_any, slice_split}
 use Rattle.std.specs.Fmt.{decimal}
 use lib.Chars.{codes}
 use Rattle.channel_model.specs.declared.acts.ChannelNote.TheVariants as note
@@ -19,7 +19,7 @@ use Rattle.end_search.specs.declared.wanted.Wanted.{Wanted}
 use Rattle.end_search.specs.declared.wanted.Wanted.TheVariants as wanted
 use Rattle.end_search.specs.declared.ways.Verdict.{Verdict}
 use Rattle.end_search.specs.declared.ways.Verdict.TheVariants as verdict
-use Rattle.run_claims.specs.Runs.{RunsTo, HasOneOrder}
+use Rattle.run_claims.specs.Runs.{RunsTo}
 
 -- ---- the parts of a block
 
@@ -90,6 +90,17 @@ does_suit (Some wanted.Failed) root = is_failed root
 does_suit (Some wanted.Cancelled) root = is_cancelled root
 does_suit other root = true
 
+-- a line of the text ends so
+abbrev pub has_end : List ℕ → List ℕ → Bool
+has_end back text = list_any (λ line. ends_with (λ a b. a == b) line back) (slice_split (λ b. b == 10) text)
+
+-- an end with these refused sends, and these lines of Jobs and elements, is one that is looked for, as far as they say
+abbrev pub shows_kind : Option Wanted → List ℕ → List ℕ → Bool
+shows_kind (Some wanted.Undelivered) refused lines = has_end (codes " undelivered") lines
+shows_kind (Some wanted.Held) refused lines = has_end (codes " held") lines
+shows_kind (Some wanted.Refused) refused lines = nat_lt 0 (length refused)
+shows_kind other refused lines = true
+
 -- ---- blocks
 
 -- the block is that of a run of the script that was made in the order which it shows, and came to rest: how its root ended, which
@@ -97,10 +108,10 @@ does_suit other root = true
 pub record IsBlock (p : Program) (wanted : Option Wanted) (number : ℕ) (block : List ℕ) : Type 0 where
   pub root : Option End
   pub run : RunsTo root p
-  pub one_order : HasOneOrder run
   pub order : List ℕ
   pub made : MadeInOrder p order run.books run.channels run.jobs
   pub suits : does_suit wanted root ≡ true
+  pub kind : shows_kind wanted (refused_text p run.books) (ends_text p run.books) ≡ true
   pub waits : List ℕ
   pub are_waits : AreWaits p (report_text p run.books) waits
   pub is_text : block
@@ -133,10 +144,9 @@ pub record Explores (p : Program) (wanted : Option Wanted) (how : Verdict) (text
   pub rest : List ℕ
   pub is_text : text ≡ blocks ++ (count_text count ++ rest)
 
--- the text is the report of a run of the script that came to rest, whose root ended so, if it has; both its histories have one order
+-- the text is the report of a run of the script that came to rest, whose root ended so, if it has
 pub record TellsOf (p : Program) (report : Report) : Type 0 where
   pub run : RunsTo report.root p
-  pub one_order : HasOneOrder run
   pub is_report : report.text.items ≡ report_text p run.books
 
 -- the same of a run that was made in this order

@@ -6,6 +6,7 @@ ghost use Rattle.end_search.specs.Blocks.{Blocks, Explores, Fits, TellsInOrder, 
 
 use crate::blocks::{Shown, block_of};
 use crate::local::is_calm;
+use crate::parts::Task;
 use crate::wanted::{Tell, Wanted, does_suit};
 use crate::ways::{Search, Verdict, Way, Ways, find_ways};
 use co_base::{Gate, Memory, Sink, Tag};
@@ -15,6 +16,7 @@ use note_book::Notes;
 use run_report::report;
 use script_reader::Script;
 use std::alloc::{AllocError, Global};
+use std::thread::Threads;
 
 /// What is looked for, and how far.
 #[derive(Clone, Copy)]
@@ -23,6 +25,8 @@ pub struct Limit {
     pub tell: Tell,
     /// How many states are looked at, at most.
     pub states: u32,
+    /// How many workers look at states side by side, 1 to 16: what is found does not depend on it.
+    pub workers: u8,
 }
 
 /// What a search came to, and what is printed of it.
@@ -42,7 +46,8 @@ pub struct Report {
 /// Looks for the ends of a script, of which this is the text, and prints each once, those of fewer polls first.
 ///
 /// A long search says to `errors`, each 100,000 states, how far it is.
-pub fn explore<G: Gate, E: Sink>(
+pub fn explore<R: Threads + Sync, G: Gate + Sync, E: Sink>(
+    rt: &R,
     alloc: Global,
     script: &Script,
     source: &[u8],
@@ -56,7 +61,7 @@ pub fn explore<G: Gate, E: Sink>(
         Some(_) => 1,
         None => usize::MAX,
     };
-    let found = ways_found(alloc, script, source, limit, ends, gate, errors)?;
+    let found = ways_found(rt, alloc, script, source, limit, ends, gate, errors)?;
     let shown = Shown {
         script,
         source,
@@ -66,7 +71,8 @@ pub fn explore<G: Gate, E: Sink>(
 }
 
 /// The search itself.
-fn ways_found<G: Gate, E: Sink>(
+fn ways_found<R: Threads + Sync, G: Gate + Sync, E: Sink>(
+    rt: &R,
     alloc: Global,
     script: &Script,
     source: &[u8],
@@ -75,16 +81,21 @@ fn ways_found<G: Gate, E: Sink>(
     gate: &G,
     errors: &mut E,
 ) -> Result<Ways, Memory> {
-    let search = Search {
+    let task = Task {
         script,
+        calm: is_calm(script),
+        losses: limit.tell == Tell::All || limit.wanted.is_some(),
+    };
+    let search = Search {
+        task,
         source,
         wanted: limit.wanted,
         tell: limit.tell,
-        calm: is_calm(script),
         states: limit.states,
         ends,
+        workers: limit.workers,
     };
-    find_ways(alloc, search, gate, errors)
+    find_ways(rt, alloc, search, gate, errors)
 }
 
 /// What is printed of a search that came to this.
@@ -232,7 +243,8 @@ fn rest_of(alloc: Global, found: &Ways, verdict: Verdict) -> Result<String, Memo
 
 /// The report of the end with this number, counted from 1, of those that are looked for, if there is one. Says how far it is, as
 /// `explore`.
-pub fn report_of_end<G: Gate, E: Sink>(
+pub fn report_of_end<R: Threads + Sync, G: Gate + Sync, E: Sink>(
+    rt: &R,
     alloc: Global,
     script: &Script,
     source: &[u8],
@@ -247,7 +259,8 @@ pub fn report_of_end<G: Gate, E: Sink>(
     let Some(place) = (number as usize).checked_sub(1) else {
         return Ok(None);
     };
-    let found = ways_found(alloc, script, source, limit, number as usize, gate, errors)?;
+    let ends = number as usize;
+    let found = ways_found(rt, alloc, script, source, limit, ends, gate, errors)?;
     match found.ends.get(place) {
         Some(way) => {
             let report = report_in_order(alloc, script, way.order.as_slice(), gate)?;

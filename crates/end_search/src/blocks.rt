@@ -1,16 +1,17 @@
 //! What is printed of an end.
 
-ghost use Rattle.std.specs.Prelude.{◌≡◌, ◌++◌, IfOk, IfSome, OnOk, None, is_some, length, string_bytes, true};
+ghost use Rattle.std.specs.Prelude.{◌≡◌, ◌++◌, IfOk, IfSome, OnOk, None, is_some, length, map, string_bytes, true};
 ghost use lib.Chars.{codes};
 ghost use Rattle.std.specs.List.{flat_map};
 ghost use Rattle.std.specs.Fmt.{decimal};
 ghost use Rattle.note_book.specs.Books.{notes_of};
 ghost use Rattle.script_reader.specs.Scripts.{program_of};
 ghost use Rattle.engine_one.specs.Runs.{CameToRest, WasMadeInOrder};
-ghost use Rattle.end_search.specs.Blocks.{AreWaits, IsBlock, does_suit, head_text, order_text, status_text, tag_part, tags_text, too_long_text};
+ghost use Rattle.run_report.specs.Elements.{ends_text};
+ghost use Rattle.end_search.specs.Blocks.{AreWaits, IsBlock, does_suit, head_text, order_text, refused_text, shows_kind, status_text, tag_part, tags_text, too_long_text};
 
 use crate::refusals::refused_sends;
-use crate::wanted::{Wanted, does_suit};
+use crate::wanted::{Wanted, does_suit, shows_kind};
 use co_base::{Gate, Memory, Tag};
 use engine_one::{ListRun, run_in_order};
 use job_model::End;
@@ -42,12 +43,27 @@ pub(crate) fn block_of<G: Gate>(
         IsBlock (program_of shown.entry.script.now) shown.entry.wanted number block.items)) }
     ensures some { IfOk result (λ found. shown.entry.wanted ≡ None → is_some found ≡ true) }
 {
-    let run = run_in_order::<Notes, G>(alloc, shown.script, gate, order)?;
+    let script = shown.script;
+    let run = run_in_order::<Notes, G>(alloc, script, gate, order)?;
     if !does_suit(shown.wanted, run.done.end) {
         return Ok(None);
     }
-    let block = told_of_run(alloc, shown, number, order, &run)?;
+    let books = run.done.books.as_slice();
+    let refused = refused_sends(alloc, script, books)?;
+    let ends = ends_of(alloc, script, books)?;
+    if !shows_kind(shown.wanted, refused.as_bytes(), ends.as_bytes()) {
+        return Ok(None);
+    }
+    let lines = Lines { refused, ends };
+    let block = told_of_run(alloc, shown, number, order, &run, &lines)?;
     Ok(Some(block))
+}
+
+/// The lines of a run's refused sends, and those of its Jobs and elements.
+#[derive(Drop)]
+struct Lines {
+    refused: String,
+    ends: String,
 }
 
 /// The same of a run that was made, and is looked for.
@@ -57,23 +73,23 @@ fn told_of_run(
     number: u64,
     order: &[Tag],
     run: &ListRun<Notes>,
+    lines: &Lines,
 ) -> Result<Vec<u8>, Memory>
     requires rest { CameToRest notes_of (program_of shown.script.now) run.now }
     requires made { WasMadeInOrder notes_of (program_of shown.script.now) order.now run.now }
     requires suits { does_suit shown.wanted run.now.done.end ≡ true }
+    requires refused { string_bytes lines.now.refused ≡ refused_text (program_of shown.script.now) (map notes_of run.now.done.books.items) }
+    requires ends { string_bytes lines.now.ends ≡ ends_text (program_of shown.script.now) (map notes_of run.now.done.books.items) }
+    requires kind { shows_kind shown.wanted (string_bytes lines.now.refused) (string_bytes lines.now.ends) ≡ true }
     ensures { IfOk result (λ block. IsBlock (program_of shown.entry.script.now) shown.entry.wanted number block.items) }
 {
-    let script = shown.script;
-    let books = run.done.books.as_slice();
-    let told = report(alloc, script, &run.done)?;
-    let waits = waits_in(alloc, script, shown.source, told.as_slice())?;
-    let refused = refused_sends(alloc, script, books)?;
-    let ends = ends_of(alloc, script, books)?;
+    let told = report(alloc, shown.script, &run.done)?;
+    let waits = waits_in(alloc, shown.script, shown.source, told.as_slice())?;
     let order = order_text(alloc, order)?;
     let mut block = head_text(alloc, number, run.done.end)?;
     block.extend_from_slice(waits.as_slice())?;
-    block.extend_from_slice(refused.as_bytes())?;
-    block.extend_from_slice(ends.as_bytes())?;
+    block.extend_from_slice(lines.refused.as_bytes())?;
+    block.extend_from_slice(lines.ends.as_bytes())?;
     block.extend_from_slice(order.as_bytes())?;
     Ok(block)
 }

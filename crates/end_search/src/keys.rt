@@ -1,6 +1,6 @@
 //! A state of a run as numbers.
 
-use crate::losses::push_losses;
+use crate::losses::read_losses;
 use crate::reads::reads_of;
 use co_base::Memory;
 use engine_one::Trial;
@@ -15,7 +15,10 @@ pub(crate) struct Keys {
     reads: Vec<bool>,
     /// Whether losses are told apart.
     losses: bool,
+    /// What the last key was made of, and the key.
     numbers: Vec<u64>,
+    large: Vec<u64>,
+    words: Vec<u64>,
 }
 
 impl Keys {
@@ -24,38 +27,55 @@ impl Keys {
             reads: reads_of(alloc, script)?,
             losses,
             numbers: Vec::new(alloc),
+            large: Vec::new(alloc),
+            words: Vec::new(alloc),
         })
     }
 
-    /// Numbers that tell how a run can go on, and what its ends tell of what happened before: two runs with equal numbers have the same
-    /// ends.
+    /// Makes a key: words that tell how a run can go on, and what its ends tell of what happened before. Two runs with equal words have the
+    /// same ends.
     ///
-    /// They are the floors, where each coroutine is, and the losses, which nothing that comes later depends on: those are told apart where
-    /// ends are told with them.
-    pub(crate) fn key_of(
-        &mut self,
-        alloc: Global,
-        trial: &Trial<Notes>,
-    ) -> Result<Vec<u8>, Memory> {
+    /// They tell of the floors, where each coroutine is, and the losses, which nothing that comes later depends on: those are told apart
+    /// where ends are told with them.
+    pub(crate) fn make(&mut self, trial: &Trial<Notes>) -> Result<(), Memory> {
         self.numbers.clear();
         trial.push_key(self.reads.as_slice(), &mut self.numbers)?;
         if self.losses {
-            push_losses(alloc, &mut self.numbers, trial, self.reads.len())?;
+            read_losses(&mut self.large, trial, self.reads.len())?;
+            self.numbers.extend_from_slice(self.large.as_slice())?;
         }
-        packed(alloc, self.numbers.as_slice())
+        let count = self.numbers.len() as u64;
+        self.numbers.push(count)?;
+        self.pack()
     }
-}
 
-/// The numbers as bytes: one byte for a small number, and nine for another.
-fn packed(alloc: Global, numbers: &[u64]) -> Result<Vec<u8>, Memory> {
-    let mut bytes = Vec::with_capacity(alloc, numbers.len())?;
-    for number in numbers {
-        if *number < 255 {
-            bytes.push(*number as u8)?;
-        } else {
-            bytes.push(255)?;
-            bytes.extend_from_slice(&number.to_le_bytes())?;
-        }
+    /// The key that was made last.
+    pub(crate) fn last(&self) -> &[u64] {
+        self.words.as_slice()
     }
-    Ok(bytes)
+
+    /// Makes words of the numbers, of which the last is how many there are besides: eight small ones in each word, and behind them those
+    /// that are not small, of which a word has a mark.
+    fn pack(&mut self) -> Result<(), Memory> {
+        self.words.clear();
+        self.large.clear();
+        let mut word = 0u64;
+        let mut filled = 0u8;
+        for number in self.numbers.as_slice() {
+            let mut byte = *number;
+            if *number > 254 {
+                self.large.push(*number)?;
+                byte = 255;
+            }
+            word = word.wrapping_mul(256) | byte;
+            filled = filled.wrapping_add(1);
+            if filled % 8 == 0 {
+                self.words.push(word)?;
+                word = 0;
+            }
+        }
+        self.words.push(word)?;
+        self.words.extend_from_slice(self.large.as_slice())?;
+        Ok(())
+    }
 }

@@ -6,21 +6,25 @@
 //! - `reads`: which coroutines read what they received.
 //! - `losses`: what was lost.
 //! - `keys`: a state of a run as numbers.
+//! - `aheads`: what was found of states before their turn.
 //! - `states`: the states that were seen, and how each was reached.
 //! - `refusals`: the lines of sends that closed channels refused.
 //! - `wanted`: which ends are looked for, and by what two ends are told apart.
 //! - `local`: polls that no other coroutine can hinder.
 //! - `samples`: runs in random orders.
+//! - `parts`: what one worker finds of some of the states.
 //! - `ways`: the search.
 //! - `blocks`: what is printed of an end.
 //! - `answers`: what is printed of a search; the report of one run.
 #![tactic(auto)]
 
+mod aheads;
 mod answers;
 mod blocks;
 mod keys;
 mod local;
 mod losses;
+mod parts;
 mod reads;
 mod refusals;
 mod samples;

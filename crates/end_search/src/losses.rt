@@ -4,7 +4,6 @@ use channel_model::{Act, ChannelNote, Settled};
 use co_base::{ChannelId, Memory, Value, WaitId};
 use engine_one::Trial;
 use note_book::{Item, Notes};
-use std::alloc::Global;
 
 #[derive(Clone, Copy)]
 struct Loss {
@@ -22,14 +21,13 @@ enum Lost {
     Withdrawn,
 }
 
-/// Adds the losses that the books of so many coroutines tell of, in an order that does not depend on that of the books.
-pub(crate) fn push_losses(
-    alloc: Global,
-    key: &mut Vec<u64>,
+/// The losses that the books of so many coroutines tell of, in an order that does not depend on that of the books.
+pub(crate) fn read_losses(
+    losses: &mut Vec<u64>,
     trial: &Trial<Notes>,
     coroutines: usize,
 ) -> Result<(), Memory> {
-    let mut losses = Vec::new(alloc);
+    losses.clear();
     for tag in 0..coroutines {
         if let Some(book) = trial.book(tag) {
             let items = book.items();
@@ -41,9 +39,6 @@ pub(crate) fn push_losses(
         }
     }
     losses.sort()?;
-    for number in losses.as_slice() {
-        key.push(*number)?;
-    }
     Ok(())
 }
 

@@ -1,5 +1,6 @@
 //! The states that were seen, and how each was reached.
 
+use crate::aheads::Aheads;
 use co_base::{Memory, Tag};
 use std::alloc::Global;
 
@@ -14,10 +15,12 @@ const PLACES: usize = 1024;
 pub(crate) struct States {
     /// How each was reached: from which state, by a poll of which coroutine; and where its key ends.
     steps: Vec<Step>,
-    keys: Vec<u8>,
+    keys: Vec<u64>,
     /// At each place the number of a state, or 0.
     places: Vec<u32>,
     most: usize,
+    /// What was found of those that were not looked at yet.
+    pub(crate) aheads: Aheads,
     /// Whether a state was left out, as one too many.
     pub(crate) full: bool,
     /// How many polls led from a state to one that may be another.
@@ -51,6 +54,7 @@ impl States {
             keys: Vec::new(alloc),
             places: vec![in alloc; 0u32; PLACES]?,
             most: most as usize,
+            aheads: Aheads::new(alloc),
             full: false,
             turns: 0,
         })
@@ -60,15 +64,21 @@ impl States {
         self.steps.len()
     }
 
-    /// Adds the state with this key, if it is new, which a poll of a coroutine led to.
-    pub(crate) fn add(&mut self, from: u32, tag: Tag, key: &[u8]) -> Result<(), Memory> {
+    /// Adds the state with this key, and the hash of it, if it is new, which a poll of a coroutine led to. The answer is its number then.
+    pub(crate) fn add(
+        &mut self,
+        from: u32,
+        tag: Tag,
+        hash: u64,
+        key: &[u64],
+    ) -> Result<Option<u32>, Memory> {
         self.turns = self.turns.saturating_add(1);
-        let Found::Free(place) = self.place_of(key) else {
-            return Ok(());
+        let Found::Free(place) = self.place_of(hash, key) else {
+            return Ok(None);
         };
         let Some(number) = self.next_number() else {
             self.full = true;
-            return Ok(());
+            return Ok(None);
         };
         self.keys.extend_from_slice(key)?;
         self.steps.push(Step {
@@ -80,7 +90,12 @@ impl States {
         if self.steps.len() > self.places.len() / 2 {
             self.grow()?;
         }
-        Ok(())
+        Ok(Some(number))
+    }
+
+    /// Whether a state with this key, and the hash of it, was seen.
+    pub(crate) fn has(&self, hash: u64, key: &[u64]) -> bool {
+        matches!(self.place_of(hash, key), Found::Seen)
     }
 
     /// The number of the next state, if there may be one more.
@@ -92,9 +107,9 @@ impl States {
     }
 
     /// Where a state with this key stands, or may stand.
-    fn place_of(&self, key: &[u8]) -> Found {
+    fn place_of(&self, hash: u64, key: &[u64]) -> Found {
         let mask = self.places.len().saturating_sub(1);
-        let mut place = hash_of(key) as usize & mask;
+        let mut place = hash as usize & mask;
         for _ in 0..self.places.len() {
             match self.places.get(place).copied() {
                 None | Some(0) => return Found::Free(place),
@@ -117,7 +132,7 @@ impl States {
     }
 
     /// The key of a state.
-    fn key_of(&self, state: usize) -> &[u8] {
+    fn key_of(&self, state: usize) -> &[u64] {
         let start = match self.steps.get(state.saturating_sub(1)) {
             Some(step) => step.key_end,
             None => 0,
@@ -138,7 +153,8 @@ impl States {
         self.places = vec![in alloc; 0u32; count]?;
         for state in 1..self.steps.len() {
             let number = u32::try_from(state).ok().unwrap_or(0);
-            if let Found::Free(place) = self.place_of(self.key_of(state)) {
+            let key = self.key_of(state);
+            if let Found::Free(place) = self.place_of(hash_of(key), key) {
                 self.put(place, number);
             }
         }
@@ -148,6 +164,13 @@ impl States {
     /// The polls by which a state was first reached, in their order.
     pub(crate) fn order_of(&self, alloc: Global, state: u32) -> Result<Vec<Tag>, Memory> {
         let mut order = Vec::new(alloc);
+        self.read_order(state, &mut order)?;
+        Ok(order)
+    }
+
+    /// The same, in place of what the list has.
+    pub(crate) fn read_order(&self, state: u32, order: &mut Vec<Tag>) -> Result<(), Memory> {
+        order.clear();
         let mut at = state;
         for _ in 0..self.steps.len() {
             if at == 0 {
@@ -160,15 +183,16 @@ impl States {
             at = step.from;
         }
         order.reverse();
-        Ok(order)
+        Ok(())
     }
 }
 
 /// A number that differs for most keys that differ.
-fn hash_of(key: &[u8]) -> u64 {
+pub(crate) fn hash_of(key: &[u64]) -> u64 {
     let mut hash = 14695981039346656037u64;
-    for byte in key {
-        hash = (hash ^ u64::from(*byte)).wrapping_mul(1099511628211);
+    for word in key {
+        let mixed = (hash ^ *word).wrapping_mul(11400714819323198485);
+        hash = mixed ^ (mixed >> 32);
     }
-    hash ^ (hash >> 32)
+    hash
 }

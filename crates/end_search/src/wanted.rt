@@ -1,7 +1,7 @@
 //! Which ends are looked for, and by what two ends are told apart.
 
 ghost use Rattle.std.specs.Prelude.{◌≡◌};
-ghost use Rattle.end_search.specs.Blocks.{does_suit, is_cancelled, is_failed};
+ghost use Rattle.end_search.specs.Blocks.{does_suit, has_end, is_cancelled, is_failed, shows_kind};
 
 use crate::blocks::waits_in;
 use crate::refusals::refused_sends;
@@ -150,6 +150,35 @@ fn is_cancelled(root: Option<End>) -> bool
     ensures { result ≡ is_cancelled root }
 {
     matches!(root, Some(End::Cancelled(Cause::Request | Cause::None)))
+}
+
+/// Whether an end with these lines of refused sends, and of Jobs and elements, is one that is looked for, as far as they say.
+pub(crate) fn shows_kind(wanted: Option<Wanted>, refused: &[u8], lines: &[u8]) -> bool
+    ensures { result ≡ shows_kind wanted refused.now lines.now }
+{
+    match wanted {
+        Some(Wanted::Undelivered) => has_end(b" undelivered", lines),
+        Some(Wanted::Held) => has_end(b" held", lines),
+        Some(Wanted::Refused) => !refused.is_empty(),
+        _ => true,
+    }
+}
+
+/// Whether a line of the text ends so.
+fn has_end(back: &[u8], text: &[u8]) -> bool
+    ensures { result ≡ has_end back.now text.now }
+{
+    let mut rest = text;
+    'lines: loop {
+        let (line, more) = cut_at(b'\n', rest);
+        if line.ends_with(back) {
+            return true;
+        }
+        let Some(next) = more else {
+            return false;
+        };
+        rest = next;
+    }
 }
 
 impl Told {

@@ -1,19 +1,24 @@
 //! The search: every order of whole polls, those of fewer polls first.
+//!
+//! States are looked at in spans. Workers find the parts of a span side by side, and then one adds them in the order of the states: so
+//! what is found does not depend on how many they are.
 
 ghost use Rattle.std.specs.Prelude.{OnOk};
 ghost use Rattle.script_reader.specs.Scripts.{program_of};
 ghost use Rattle.engine_one.specs.Trials.{TrialStands};
 
-use crate::keys::Keys;
-use crate::local::is_local;
+use crate::parts::{Part, Reached, Span, Task, parts_of};
 use crate::samples::{Numbers, RUNS, random_order};
 use crate::states::States;
 use crate::wanted::{Tell, Told, Wanted, told_of};
 use co_base::{Gate, Memory, Sink, Tag, write_all};
 use engine_one::{Trial, run_in_order};
 use note_book::Notes;
-use script_reader::Script;
 use std::alloc::Global;
+use std::thread::Threads;
+
+/// How many states of a span each worker looks at, at most.
+const SHARE: u32 = 1024;
 
 /// After how many states the search says how far it is: one to three seconds.
 const STEP: u32 = 100000;
@@ -50,88 +55,160 @@ pub(crate) struct Ways {
 /// What is searched.
 #[derive(Clone, Copy)]
 pub(crate) struct Search<'a> {
-    pub(crate) script: &'a Script,
+    pub(crate) task: Task<'a>,
     /// The text of the script.
     pub(crate) source: &'a [u8],
     pub(crate) wanted: Option<Wanted>,
     /// By what two ends are told apart.
     pub(crate) tell: Tell,
-    /// Whether no Job of the script can be cancelled.
-    pub(crate) calm: bool,
     /// How many states are looked at, at most.
     pub(crate) states: u32,
     /// After how many ends the search stops.
     pub(crate) ends: usize,
+    /// How many workers look at states side by side.
+    pub(crate) workers: u8,
 }
 
-/// What a search works with.
+/// How far a search is.
 #[derive(Drop)]
-struct Tools {
-    trial: Trial<Notes>,
-    keys: Keys,
+struct Course {
     states: States,
+    ends: Vec<Way>,
+    /// What is told of the end of one worker.
+    usual: Told,
 }
 
 /// The ends that some order of whole polls leads to, each once.
-pub(crate) fn find_ways<G: Gate, E: Sink>(
+pub(crate) fn find_ways<R: Threads + Sync, G: Gate + Sync, E: Sink>(
+    rt: &R,
     alloc: Global,
     search: Search,
     gate: &G,
     errors: &mut E,
 ) -> Result<Ways, Memory> {
-    let script = search.script;
+    let script = search.task.script;
     let usual = run_in_order::<Notes, G>(alloc, script, gate, &[])?.done;
-    let usual = told_of(alloc, script, search.source, search.tell, &usual)?;
-    let losses = search.tell == Tell::All || search.wanted.is_some();
-    let mut tools = Tools {
-        trial: Trial::new(alloc, script)?,
-        keys: Keys::new(alloc, script, losses)?,
+    let mut course = Course {
         states: States::new(alloc, search.states)?,
+        ends: Vec::new(alloc),
+        usual: told_of(alloc, script, search.source, search.tell, &usual)?,
     };
-    let mut ends = Vec::new(alloc);
-    let mut found = look_through(alloc, search, gate, &mut tools, &mut ends, &usual, errors)?;
-    let reached = ends.len();
-    if tools.states.full && !found {
-        found = sample(alloc, search, gate, &mut tools.trial, &mut ends, &usual)?;
+    let mut found = look_through(rt, alloc, search, gate, &mut course, errors)?;
+    let reached = course.ends.len();
+    if course.states.full && !found {
+        found = sample(alloc, search, gate, &mut course)?;
     }
-    Ok(Ways {
+    Ok(ways_of(course, reached, found))
+}
+
+/// What a search came to, of which so many ends were reached, and perhaps all that were looked for found.
+fn ways_of(course: Course, reached: usize, found: bool) -> Ways {
+    let Course {
+        states,
+        ends,
+        usual: _,
+    } = course;
+    Ways {
         sampled: ends.len().saturating_sub(reached),
         ends,
-        verdict: verdict_of(found, tools.states.full),
-        states: tools.states.count(),
-        turns: tools.states.turns,
-    })
+        verdict: verdict_of(found, states.full),
+        states: states.count(),
+        turns: states.turns,
+    }
 }
 
 /// Looks at the states in the order in which they are reached. The answer says whether as many ends are there as are looked for.
-fn look_through<G: Gate, E: Sink>(
+fn look_through<R: Threads + Sync, G: Gate + Sync, E: Sink>(
+    rt: &R,
     alloc: Global,
     search: Search,
     gate: &G,
-    tools: &mut Tools,
-    ends: &mut Vec<Way>,
-    usual: &Told,
+    course: &mut Course,
     errors: &mut E,
-) -> Result<bool, Memory>
-    requires { TrialStands (program_of search.script.now) tools.old.trial }
-    ensures { OnOk result (TrialStands (program_of search.entry.script.now) tools.new.trial) }
-{
-    for state in 0..search.states {
-        if state as usize >= tools.states.count() {
+) -> Result<bool, Memory> {
+    let mut from = 0;
+    for _ in 0..search.states {
+        let span = span_from(from, course.states.count(), search.workers);
+        if span.from >= span.to {
             break;
         }
-        if state > 0 && state % STEP == 0 {
-            tell_progress(alloc, errors, state, &tools.states, ends.len())?;
+        let parts = parts_of(
+            rt,
+            alloc,
+            search.task,
+            gate,
+            &course.states,
+            span,
+            search.workers,
+        )?;
+        for part in parts.as_slice() {
+            if add_part(alloc, search, gate, course, errors, from, part)? {
+                return Ok(true);
+            }
+            from = from.saturating_add(number_of(part.count()));
         }
-        let order = tools.states.order_of(alloc, state)?;
-        if expanded(alloc, search, gate, tools, state, &order)? {
-            push_end(alloc, search, gate, ends, order, usual)?;
-            if ends.len() >= search.ends {
+        course.states.aheads.leave_behind(from);
+    }
+    Ok(false)
+}
+
+/// The states from this number on that are looked at next, of so many.
+fn span_from(from: u32, count: usize, workers: u8) -> Span {
+    let most = SHARE.saturating_mul(u32::from(workers).max(1));
+    Span {
+        from,
+        to: from.saturating_add(most).min(number_of(count)),
+    }
+}
+
+fn number_of(count: usize) -> u32 {
+    u32::try_from(count).ok().unwrap_or(u32::MAX)
+}
+
+/// Adds what was found of states, of which the first has this number. The answer says whether as many ends are there as are looked for.
+fn add_part<G: Gate, E: Sink>(
+    alloc: Global,
+    search: Search,
+    gate: &G,
+    course: &mut Course,
+    errors: &mut E,
+    first: u32,
+    part: &Part,
+) -> Result<bool, Memory> {
+    for place in 0..part.count() {
+        let state = first.saturating_add(number_of(place));
+        if state > 0 && state % STEP == 0 {
+            tell_progress(alloc, errors, state, &course.states, course.ends.len())?;
+        }
+        let polls = part.polls_of(place);
+        for reached in polls {
+            add_state(&mut course.states, state, part, *reached)?;
+        }
+        if polls.is_empty() {
+            let order = course.states.order_of(alloc, state)?;
+            push_end(alloc, search, gate, course, order)?;
+            if course.ends.len() >= search.ends {
                 return Ok(true);
             }
         }
     }
     Ok(false)
+}
+
+/// Adds the state that a poll in this state leads to, if it is new, and what was found of it.
+fn add_state(states: &mut States, state: u32, part: &Part, reached: Reached) -> Result<(), Memory> {
+    let poll = reached.poll;
+    let key = part.key_at(reached.key);
+    let Some(number) = states.add(state, poll.tag, poll.hash, key)? else {
+        return Ok(());
+    };
+    if let Some(found) = reached.ahead {
+        let key = part.key_at(found.key);
+        states
+            .aheads
+            .keep(number, found.first, found.stuck_from, key)?;
+    }
+    Ok(())
 }
 
 /// Says how far the search is. If that cannot be written, it is not said.
@@ -152,18 +229,17 @@ fn tell_progress<E: Sink>(
     Ok(())
 }
 
-/// Adds the end that a run in this order comes to, if it is one that is looked for, and none of these.
+/// Adds the end that a run in this order comes to, if it is one that is looked for, and none of those that are there.
 fn push_end<G: Gate>(
     alloc: Global,
     search: Search,
     gate: &G,
-    ends: &mut Vec<Way>,
+    course: &mut Course,
     order: Vec<Tag>,
-    usual: &Told,
 ) -> Result<(), Memory> {
     let way = way_of(alloc, search, gate, order)?;
-    if is_new(ends, &way, search.wanted, usual) {
-        ends.push(way)?;
+    if is_new(&course.ends, &way, search.wanted, &course.usual) {
+        course.ends.push(way)?;
     }
     Ok(())
 }
@@ -173,30 +249,20 @@ fn sample<G: Gate>(
     alloc: Global,
     search: Search,
     gate: &G,
-    trial: &mut Trial<Notes>,
-    ends: &mut Vec<Way>,
-    usual: &Told,
-) -> Result<bool, Memory>
-    requires { TrialStands (program_of search.script.now) trial.old }
-    ensures { OnOk result (TrialStands (program_of search.entry.script.now) trial.new) }
-{
-    push_end(alloc, search, gate, ends, Vec::new(alloc), usual)?;
+    course: &mut Course,
+) -> Result<bool, Memory> {
+    let script = search.task.script;
+    let mut trial = Trial::new(alloc, script)?;
+    push_end(alloc, search, gate, course, Vec::new(alloc))?;
     let mut numbers = Numbers::new();
     for run in 0..RUNS {
-        if ends.len() >= search.ends {
+        if course.ends.len() >= search.ends {
             return Ok(true);
         }
-        let order = random_order(
-            alloc,
-            search.script,
-            gate,
-            trial,
-            &mut numbers,
-            run % 2 == 1,
-        )?;
-        push_end(alloc, search, gate, ends, order, usual)?;
+        let order = random_order(alloc, script, gate, &mut trial, &mut numbers, run % 2 == 1)?;
+        push_end(alloc, search, gate, course, order)?;
     }
-    Ok(ends.len() >= search.ends)
+    Ok(course.ends.len() >= search.ends)
 }
 
 /// How a search ended that found all that it was to find, or left a state out.
@@ -210,72 +276,6 @@ fn verdict_of(found: bool, full: bool) -> Verdict {
     }
 }
 
-/// A poll that does something, and the key of the state that it leads to.
-#[derive(Drop)]
-struct Next {
-    tag: Tag,
-    key: Vec<u8>,
-}
-
-/// Adds the states after each poll that does something in this state. The answer says whether none does: this is an end.
-fn expanded<G: Gate>(
-    alloc: Global,
-    search: Search,
-    gate: &G,
-    tools: &mut Tools,
-    state: u32,
-    order: &Vec<Tag>,
-) -> Result<bool, Memory>
-    requires { TrialStands (program_of search.script.now) tools.old.trial }
-    ensures { OnOk result (TrialStands (program_of search.entry.script.now) tools.new.trial) }
-{
-    let nexts = nexts_of(alloc, search, gate, tools, order)?;
-    for next in nexts.as_slice() {
-        tools.states.add(state, next.tag, next.key.as_slice())?;
-    }
-    Ok(nexts.is_empty())
-}
-
-/// The polls that do something behind this order; or one of them alone, if that suffices.
-fn nexts_of<G: Gate>(
-    alloc: Global,
-    search: Search,
-    gate: &G,
-    tools: &mut Tools,
-    order: &Vec<Tag>,
-) -> Result<Vec<Next>, Memory>
-    requires { TrialStands (program_of search.script.now) tools.old.trial }
-    ensures { OnOk result (TrialStands (program_of search.entry.script.now) tools.new.trial) }
-{
-    let script = search.script;
-    let mut nexts = Vec::new(alloc);
-    let mut from: Tag = 0;
-    tools.trial.go_to(alloc, script, gate, order.as_slice())?;
-    let end = tools.trial.stuck_from();
-    'polls: for _ in 0..script.coroutines() {
-        if from >= end {
-            return Ok(nexts);
-        }
-        tools.trial.go_to(alloc, script, gate, order.as_slice())?;
-        let Some(polled) = tools.trial.first_that_moves(script, gate, from)? else {
-            return Ok(nexts);
-        };
-        let key = tools.keys.key_of(alloc, &tools.trial)?;
-        if is_local(script, search.calm, polled) {
-            nexts = Vec::new(alloc);
-        }
-        nexts.push(Next {
-            tag: polled.tag,
-            key,
-        })?;
-        from = polled.tag.saturating_add(1);
-        if is_local(script, search.calm, polled) {
-            return Ok(nexts);
-        }
-    }
-    Ok(nexts)
-}
-
 /// The end that a run in this order comes to.
 fn way_of<G: Gate>(
     alloc: Global,
@@ -283,7 +283,7 @@ fn way_of<G: Gate>(
     gate: &G,
     order: Vec<Tag>,
 ) -> Result<Way, Memory> {
-    let script = search.script;
+    let script = search.task.script;
     let done = run_in_order::<Notes, G>(alloc, script, gate, order.as_slice())?.done;
     let told = told_of(alloc, script, search.source, search.tell, &done)?;
     Ok(Way { order, told })

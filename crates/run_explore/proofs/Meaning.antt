@@ -3,6 +3,7 @@ use Rattle.std.proofs.Common.{◌≡◌, ◌≤◌, List, ℕ, true, length, ref
 use Rattle.co_base.specs.Streams.{Gave, GaveJust, IsDrained}
 use Rattle.script_grammar.specs.Programs.{Program}
 use Rattle.script_grammar.specs.Grammar.{Spells}
+use Rattle.run_claims.specs.Reports.{Reports}
 use Rattle.run_explore.specs.declared.outcome.Ending.TheVariants as ending
 use Rattle.end_search.specs.Blocks.{TellsInOrder, TellsOf, does_suit}
 use Rattle.end_search.specs.declared.answers.Limit.{Limit}
@@ -11,7 +12,7 @@ use Rattle.run_explore.specs.Words.{Request, in_order, report_of}
 use Rattle.run_explore.specs.declared.top.Answer.{Answer}
 use Rattle.run_explore.specs.declared.outcome.Outcome.{Outcome}
 use Rattle.run_explore.specs.declared.outcome.Outcome.TheVariants as outcomes
-use Rattle.run_explore.specs.Outcomes.{Answers, Fails, IsMade, IsMadeOf, IsWritten, Means, ShowsOrder, ShowsRun, Stream, Tells}
+use Rattle.run_explore.specs.Outcomes.{Answers, Fails, IsMade, IsMadeOf, IsWritten, Means, ShowsOrder, Stream, Tells}
 
 pub fails_means : (o : Outcome) (asked : Option Request) (source source' sink : Stream) → Fails o asked source source'
     → Means o asked source source' sink sink
@@ -70,10 +71,8 @@ pub end_tells : (p : Program) (number : ℕ) (limit : Limit) (report : Report) (
 end_tells p number limit report answer input spelled is text suits h =
     subst (λ how. Tells how (report_of number limit) input answer.text.items) (sym is) (
       suits,
-      subst (λ t. ShowsRun report.root input t.items) (sym text) (record {
-        reports = record { program = p; spelled = spelled; run = h.run; is_report = h.is_report };
-        one_order = h.one_order;
-      }),
+      subst (λ t. Reports report.root input t.items) (sym text)
+          (record { program = p; spelled = spelled; run = h.run; is_report = h.is_report }),
     )
 
 -- the report of the run in an order as the answer
@@ -83,9 +82,6 @@ pub order_tells : (p : Program) (order : List ℕ) (report : Report) (answer : A
 order_tells p order report answer input spelled is text h =
     subst (λ how. Tells how (in_order order) input answer.text.items) (sym is)
     (subst (λ t. ShowsOrder order report.root input t.items) (sym text) (record {
-      shows = record {
-        reports = record { program = p; spelled = spelled; run = h.tells.run; is_report = h.tells.is_report };
-        one_order = h.tells.one_order;
-      };
+      reports = record { program = p; spelled = spelled; run = h.tells.run; is_report = h.tells.is_report };
       made = h.made;
     }))

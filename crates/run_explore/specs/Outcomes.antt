@@ -8,7 +8,6 @@ use Rattle.job_model.specs.declared.acts.End.{End}
 use Rattle.job_model.specs.declared.acts.End.TheVariants as job
 use Rattle.script_grammar.specs.Programs.{Program}
 use Rattle.script_grammar.specs.Grammar.{Spells}
-use Rattle.run_claims.specs.Runs.{HasOneOrder}
 use Rattle.run_claims.specs.Reports.{Reports}
 use Rattle.engine_one.specs.Orders.{MadeInOrder}
 use Rattle.end_search.specs.Blocks.{Explores, does_suit}
@@ -66,19 +65,15 @@ pub record ShowsEnds (wanted : Option Wanted) (verdict : Verdict) (input text : 
   pub spelled : Spells input program
   pub explores : Explores program wanted verdict text
 
--- the input is a script, and the text the report of a run of it, whose root ended so, if it has; both its histories have one order
-pub record ShowsRun (root : Option End) (input text : List ℕ) : Type 0 where
-  pub reports : Reports root input text
-  pub one_order : HasOneOrder reports.run
-
--- the same of a run that was looked for
+-- the input is a script, and the text the report of a run of it that was looked for, whose root ended so, if it has
 abbrev pub ShowsEnd : Option Wanted → Option End → List ℕ → List ℕ → Type 0
-ShowsEnd wanted root input text = (does_suit wanted root ≡ true) × ShowsRun root input text
+ShowsEnd wanted root input text = (does_suit wanted root ≡ true) × Reports root input text
 
--- the same of a run that began with turns of these coroutines, in this order
+-- the input is a script, and the text the report of a run of it that began with turns of these coroutines, in this order, and whose root
+-- ended so, if it has
 pub record ShowsOrder (order : List ℕ) (root : Option End) (input text : List ℕ) : Type 0 where
-  pub shows : ShowsRun root input text
-  pub made : MadeInOrder shows.reports.program order shows.reports.run.books shows.reports.run.channels shows.reports.run.jobs
+  pub reports : Reports root input text
+  pub made : MadeInOrder reports.program order reports.run.books reports.run.channels reports.run.jobs
 
 -- what the text of a call that ends so says of its input: what was asked for, unless the input is no script
 abbrev pub Tells : Ending → Request → List ℕ → List ℕ → Type 0

@@ -33,12 +33,13 @@ request_of (asked.Order order) = in_order order.items
 abbrev pub option : List ℕ → Rule
 option name = record (new_rule name) { long = Some name }
 
--- run_explore [--find WHAT] [--tell WHAT] [--states N] [--report N] [--order T,T..]
+-- run_explore [--find WHAT] [--tell WHAT] [--states N] [--report N] [--order T,T..] [--workers N]
 abbrev pub explore_line : App
 explore_line =
     with_rule
+    (with_rule
     (with_rule (with_rule (with_rule (with_rule (new_app (codes "run_explore")) (option (codes "find"))) (option (codes "tell")))
-    (option (codes "states"))) (option (codes "report"))) (option (codes "order"))
+    (option (codes "states"))) (option (codes "report"))) (option (codes "order"))) (option (codes "workers"))
 
 -- the matches, where nothing is at fault
 abbrev pub unless_faulty : Kinds → List Row → Option (List Row)
@@ -89,6 +90,18 @@ abbrev pub states_of : Option (List ℕ) → Option ℕ
 states_of None = Some 1000000
 states_of (Some word) = number_at word
 
+-- how many workers there may be
+abbrev pub if_workers : ℕ → Option ℕ
+if_workers n = if nat_lt n 17 then Some n else None
+
+abbrev pub workers_at : List ℕ → Option ℕ
+workers_at word = option_and_then if_workers (number_at word)
+
+-- how many workers look at states, one where nothing is said
+abbrev pub workers_of : Option (List ℕ) → Option ℕ
+workers_of None = Some 1
+workers_of (Some word) = workers_at word
+
 -- a tag has 16 bits
 abbrev pub if_tag : ℕ → Option ℕ
 if_tag n = if nat_lt n 65536 then Some n else None
@@ -107,17 +120,19 @@ tags_of word = tags_at (slice_split (λ b. b == 44) word)
 
 -- ---- what is asked for
 
--- what is looked for, and how far
-abbrev pub limit_with : Option (Option Wanted) → Option Tell → Option ℕ → Option Limit
-limit_with None tell states = None
-limit_with (Some find) None states = None
-limit_with (Some find) (Some tell) None = None
-limit_with (Some find) (Some tell) (Some states) = Some (record { wanted = find; tell = tell; states = states })
+-- what is looked for, how far, and by how many workers
+abbrev pub limit_with : Option (Option Wanted) → Option Tell → Option ℕ → Option ℕ → Option Limit
+limit_with None tell states workers = None
+limit_with (Some find) None states workers = None
+limit_with (Some find) (Some tell) None workers = None
+limit_with (Some find) (Some tell) (Some states) None = None
+limit_with (Some find) (Some tell) (Some states) (Some workers) =
+    Some (record { wanted = find; tell = tell; states = states; workers = workers })
 
 abbrev pub limit_in : List Row → Option Limit
 limit_in rows =
     limit_with (find_of (first_of (codes "find") rows)) (tell_of (first_of (codes "tell") rows))
-    (states_of (first_of (codes "states") rows))
+    (states_of (first_of (codes "states") rows)) (workers_of (first_of (codes "workers") rows))
 
 -- within this limit, by the values of --order and --report, of which one at most is given
 abbrev pub asked_within : Limit → Option (List ℕ) → Option (List ℕ) → Option Request

@@ -22,6 +22,7 @@ fn main(rt: HostRuntime) -> ExitCode {
     let mut sink = StdSink::new(rt.stdout());
     let mut errors = StdSink::new(rt.stderr());
     let left = process(
+        &rt,
         rt.alloc(),
         env::args(&rt),
         &mut source,

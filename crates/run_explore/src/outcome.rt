@@ -40,7 +40,7 @@ pub enum Outcome {
 /// What standard error says.
 #[derive(Clone, Copy, Debug, Error)]
 pub enum Message {
-    #[error("usage: run_explore [--find WHAT] [--tell WHAT] [--states N] [--report N] [--order T,T..]")]
+    #[error("usage: run_explore [--find WHAT] [--tell WHAT] [--states N] [--report N] [--order T,T..] [--workers N]")]
     Usage,
     #[error("no end has this number")]
     NoEnd,

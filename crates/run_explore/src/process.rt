@@ -13,6 +13,7 @@ use std::alloc::Global;
 use std::env::Args;
 use std::io;
 use std::process::ExitCode;
+use std::thread::Threads;
 
 /// What a process leaves: its code, and what standard error is to say.
 #[derive(Drop)]
@@ -23,7 +24,8 @@ pub struct Left {
 
 /// Does what the arguments ask for, as `explore_main`, and answers what the process leaves. An argument that is no text is none that
 /// is accepted.
-pub fn process<S: Source, K: Sink, E: Sink>(
+pub fn process<R: Threads + Sync, S: Source, K: Sink, E: Sink>(
+    rt: &R,
     alloc: Global,
     arguments: io::Result<Args>,
     source: &mut S,
@@ -36,7 +38,7 @@ pub fn process<S: Source, K: Sink, E: Sink>(
         (stream (K.held sink.new) (K.faults sink.new)) }
 {
     match texts_of(alloc, arguments) {
-        Ok(Some(texts)) => leaving(explore_main(alloc, texts.as_slice(), source, sink, errors)),
+        Ok(Some(texts)) => leaving(explore_main(rt, alloc, texts.as_slice(), source, sink, errors)),
         Ok(None) => leaving(Outcome::Refused),
         Err(_) => leaving(Outcome::NoMemory),
     }

@@ -17,6 +17,7 @@ use run_report::fault_line;
 use script_grammar::{FaultKind, ScriptFault};
 use script_reader::{Script, read};
 use std::alloc::Global;
+use std::thread::Threads;
 
 /// What is to be written, and how the call then ends.
 #[derive(Drop)]
@@ -29,7 +30,8 @@ pub struct Answer {
 ///
 /// The order is words, script, search; the text is made whole before its first byte is written. A long search says to `errors` how far it
 /// is.
-pub fn explore_main<S: Source, K: Sink, E: Sink>(
+pub fn explore_main<R: Threads + Sync, S: Source, K: Sink, E: Sink>(
+    rt: &R,
     alloc: Global,
     words: &[String],
     source: &mut S,
@@ -40,7 +42,7 @@ pub fn explore_main<S: Source, K: Sink, E: Sink>(
         (stream (S.left source.new) (S.faults source.new)) (stream (K.held sink.old) (K.faults sink.old))
         (stream (K.held sink.new) (K.faults sink.new)) }
 {
-    match make_answer(alloc, words, source, errors) {
+    match make_answer(rt, alloc, words, source, errors) {
         Ok(answer) => written(sink, &answer),
         Err(outcome) => outcome,
     }
@@ -58,7 +60,8 @@ fn written<K: Sink>(sink: &mut K, answer: &Answer) -> Outcome
 }
 
 /// Makes what the words ask for.
-fn make_answer<S: Source, E: Sink>(
+fn make_answer<R: Threads + Sync, S: Source, E: Sink>(
+    rt: &R,
     alloc: Global,
     words: &[String],
     source: &mut S,
@@ -68,14 +71,15 @@ fn make_answer<S: Source, E: Sink>(
         (stream (S.left source.new) (S.faults source.new)) }
 {
     match asked_of(alloc, words) {
-        Ok(Some(asked)) => read_answer(alloc, asked, source, errors),
+        Ok(Some(asked)) => read_answer(rt, alloc, asked, source, errors),
         Ok(None) => Err(Outcome::Refused),
         Err(_) => Err(Outcome::NoMemory),
     }
 }
 
 /// Makes what is asked for of what the source gives.
-fn read_answer<S: Source, E: Sink>(
+fn read_answer<R: Threads + Sync, S: Source, E: Sink>(
+    rt: &R,
     alloc: Global,
     asked: Asked,
     source: &mut S,
@@ -85,7 +89,7 @@ fn read_answer<S: Source, E: Sink>(
         (stream (S.left source.new) (S.faults source.new)) }
 {
     match read_script(alloc, source) {
-        Ok(bytes) => answer_of(alloc, asked, bytes.as_slice(), errors),
+        Ok(bytes) => answer_of(rt, alloc, asked, bytes.as_slice(), errors),
         Err(ReadError::TooLong) => too_long(alloc),
         Err(ReadError::ReadFault) => Err(Outcome::ReadFault),
         Err(ReadError::Memory) => Err(Outcome::NoMemory),
@@ -93,7 +97,8 @@ fn read_answer<S: Source, E: Sink>(
 }
 
 /// Makes what is asked for of a text.
-fn answer_of<E: Sink>(
+fn answer_of<R: Threads + Sync, E: Sink>(
+    rt: &R,
     alloc: Global,
     asked: Asked,
     bytes: &[u8],
@@ -102,7 +107,7 @@ fn answer_of<E: Sink>(
     ensures { IsMadeOf (request_of asked) bytes.now result }
 {
     match read(alloc, bytes) {
-        Ok(script) => script_answer(alloc, asked, &script, bytes, errors),
+        Ok(script) => script_answer(rt, alloc, asked, &script, bytes, errors),
         Err(fault) => match fault.kind {
             FaultKind::Memory => Err(Outcome::NoMemory),
             _ => fault_answer(alloc, &fault),
@@ -111,7 +116,8 @@ fn answer_of<E: Sink>(
 }
 
 /// Makes what is asked for of a script, and of its text.
-fn script_answer<E: Sink>(
+fn script_answer<R: Threads + Sync, E: Sink>(
+    rt: &R,
     alloc: Global,
     asked: Asked,
     script: &Script,
@@ -122,14 +128,15 @@ fn script_answer<E: Sink>(
     ensures { IsMadeOf (request_of asked) bytes.now result }
 {
     match asked {
-        Asked::Ends(limit) => ends_answer(alloc, limit, script, bytes, errors),
-        Asked::Report(number, limit) => end_answer(alloc, number, limit, script, bytes, errors),
+        Asked::Ends(limit) => ends_answer(rt, alloc, limit, script, bytes, errors),
+        Asked::Report(number, limit) => end_answer(rt, alloc, number, limit, script, bytes, errors),
         Asked::Order(order) => order_answer(alloc, order.as_slice(), script, bytes),
     }
 }
 
 /// Tells the ends.
-fn ends_answer<E: Sink>(
+fn ends_answer<R: Threads + Sync, E: Sink>(
+    rt: &R,
     alloc: Global,
     limit: Limit,
     script: &Script,
@@ -139,7 +146,7 @@ fn ends_answer<E: Sink>(
     requires { Spells bytes.now (program_of script.now) }
     ensures { IsMadeOf (ends limit) bytes.now result }
 {
-    match explore(alloc, script, bytes, limit, &OpenGate, errors) {
+    match explore(rt, alloc, script, bytes, limit, &OpenGate, errors) {
         Ok(explored) => Ok(Answer {
             ending: Ending::Searched(explored.verdict),
             text: explored.text,
@@ -149,7 +156,8 @@ fn ends_answer<E: Sink>(
 }
 
 /// Reports the end with this number.
-fn end_answer<E: Sink>(
+fn end_answer<R: Threads + Sync, E: Sink>(
+    rt: &R,
     alloc: Global,
     number: u32,
     limit: Limit,
@@ -160,7 +168,7 @@ fn end_answer<E: Sink>(
     requires { Spells bytes.now (program_of script.now) }
     ensures { IsMadeOf (report_of number limit) bytes.now result }
 {
-    match report_of_end(alloc, script, bytes, limit, number, &OpenGate, errors) {
+    match report_of_end(rt, alloc, script, bytes, limit, number, &OpenGate, errors) {
         Ok(Some(report)) => Ok(answer_by(report)),
         Ok(None) => Err(Outcome::NoEnd),
         Err(_) => Err(Outcome::NoMemory),

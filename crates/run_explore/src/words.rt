@@ -4,7 +4,7 @@ ghost use Rattle.std.specs.Prelude.{◌≡◌, ◌≢◌, IfOk, Some, false, map
 ghost use lib.Chars.{codes};
 ghost use Rattle.clap.specs.Words.{app_of, first_of, found_of, is_simple_and_free, rows_of, rule_of};
 ghost use Rattle.report_reader.specs.Words.{value_at};
-ghost use Rattle.run_explore.specs.Words.{asked_by, asked_of, asked_within, explore_line, find_of, limit_in, limit_with, matches_by, number_at, option, request_of, states_of, tag_at, tags_of, tell_of, wanted_of};
+ghost use Rattle.run_explore.specs.Words.{asked_by, asked_of, asked_within, explore_line, find_of, limit_in, limit_with, matches_by, number_at, option, request_of, states_of, tag_at, tags_of, tell_of, wanted_of, workers_at, workers_of};
 
 use clap::error::ErrorKind;
 use clap::{Arg, ArgMatches, Error};
@@ -28,7 +28,21 @@ pub enum Asked {
 pub fn asked_of(alloc: Global, words: &[String]) -> Result<Option<Asked>, Memory>
     ensures { IfOk result (λ asked. option_map request_of asked ≡ asked_of (map string_bytes words.now)) }
 {
-    let Some(matches) = matches_of(explore_line(alloc)?, words)? else {
+    let line = explore_line(alloc)?;
+    asked_in(alloc, line, words)
+}
+
+/// What the words ask for by this command line.
+fn asked_in<'a>(
+    alloc: Global,
+    line: clap::Command<'a>,
+    words: &'a [String],
+) -> Result<Option<Asked>, Memory>
+    requires { is_simple_and_free (app_of line) ≡ true }
+    ensures { IfOk result (λ asked. option_map request_of asked
+        ≡ option_and_then asked_by (matches_by (app_of line.entry) (map string_bytes words.now))) }
+{
+    let Some(matches) = matches_of(line, words)? else {
         return Ok(None);
     };
     asked_by(alloc, &matches)
@@ -74,7 +88,7 @@ fn asked_within(
 
 // ---- the command line
 
-/// `run_explore [--find WHAT] [--tell WHAT] [--states N] [--report N] [--order T,T..]`.
+/// `run_explore [--find WHAT] [--tell WHAT] [--states N] [--report N] [--order T,T..] [--workers N]`.
 fn explore_line<'a>(alloc: Global) -> Result<clap::Command<'a>, Memory>
     ensures { IfOk result (λ line. app_of line ≡ explore_line) }
 {
@@ -83,7 +97,8 @@ fn explore_line<'a>(alloc: Global) -> Result<clap::Command<'a>, Memory>
         .arg(option(alloc, "tell"))?
         .arg(option(alloc, "states"))?
         .arg(option(alloc, "report"))?
-        .arg(option(alloc, "order"))?;
+        .arg(option(alloc, "order"))?
+        .arg(option(alloc, "workers"))?;
     Ok(line)
 }
 
@@ -132,12 +147,18 @@ fn limit_in(matches: &ArgMatches<'_>) -> Option<Limit>
         matches.get_str("find"),
         matches.get_str("tell"),
         matches.get_str("states"),
+        matches.get_str("workers"),
     )
 }
 
-fn limit_by(find: Option<&str>, tell: Option<&str>, states: Option<&str>) -> Option<Limit>
+fn limit_by(
+    find: Option<&str>,
+    tell: Option<&str>,
+    states: Option<&str>,
+    workers: Option<&str>,
+) -> Option<Limit>
     ensures { result ≡ limit_with (find_of (option_map (λ w. w.now) find.entry)) (tell_of (option_map (λ w. w.now) tell.entry))
-        (states_of (option_map (λ w. w.now) states.entry)) }
+        (states_of (option_map (λ w. w.now) states.entry)) (workers_of (option_map (λ w. w.now) workers.entry)) }
 {
     let Some(wanted) = find_of(find) else {
         return None;
@@ -148,10 +169,14 @@ fn limit_by(find: Option<&str>, tell: Option<&str>, states: Option<&str>) -> Opt
     let Some(states) = states_of(states) else {
         return None;
     };
+    let Some(workers) = workers_of(workers) else {
+        return None;
+    };
     Some(Limit {
         wanted,
         tell,
         states,
+        workers,
     })
 }
 
@@ -219,6 +244,25 @@ fn states_of(word: Option<&str>) -> Option<u32>
     match word {
         Some(word) => number_at(word.as_bytes()),
         None => Some(1000000),
+    }
+}
+
+fn workers_of(word: Option<&str>) -> Option<u8>
+    ensures { result ≡ workers_of (option_map (λ w. w.now) word.entry) }
+{
+    match word {
+        Some(word) => workers_at(word.as_bytes()),
+        None => Some(1),
+    }
+}
+
+/// A number from 1 to 16.
+fn workers_at(word: &[u8]) -> Option<u8>
+    ensures { result ≡ workers_at word.now }
+{
+    match number_at(word) {
+        Some(number) if number < 17 => Some(number as u8),
+        _ => None,
     }
 }
 

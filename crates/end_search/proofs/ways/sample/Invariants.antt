@@ -3,4 +3,4 @@ use Rattle.engine_one.specs.Trials.{TrialStands}
 use Rattle.end_search.proofs.ways.sample.Given as goal
 
 abbrev pub invariant-loop-run : goal.invariant-loop-run
-invariant-loop-run g l = TrialStands (program_of l.search.script.now) l.trial
+invariant-loop-run g l = TrialStands (program_of l.search.task.script.now) l.trial
