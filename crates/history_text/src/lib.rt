@@ -21,4 +21,5 @@ mod words;
 pub use input::{Input, NoInput, read_input};
 pub use job_numbers::JobNumbers;
 pub use line::Line;
+pub use lines::{NoLines, lines_in};
 pub use script_grammar::{FaultKind, ScriptFault};

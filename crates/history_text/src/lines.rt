@@ -17,7 +17,7 @@ use std::alloc::{AllocError, Global};
 
 /// Why a text gives no lines.
 #[derive(Clone, Copy)]
-pub(crate) enum NoLines {
+pub enum NoLines {
     /// The number of the first line that is none.
     AtLine(u32),
     /// No memory was found.
@@ -134,8 +134,8 @@ fn some_lines(alloc: Global, names: &[&[u8]], text: &[u8]) -> Result<Vec<Line>, 
     }
 }
 
-/// The lines of a history of channels with these names.
-pub(crate) fn lines_in(alloc: Global, names: &[&[u8]], text: &[u8]) -> Result<Vec<Line>, NoLines>
+/// The lines of a history of channels with these names, or the number, from 1, of the first that is none.
+pub fn lines_in(alloc: Global, names: &[&[u8]], text: &[u8]) -> Result<Vec<Line>, NoLines>
     requires few { length names.now ≤ 65536 }
     requires short { length text.now ≤ 67108864 }
     ensures { GivesLines result (history_of (texts names.now) text.now) }

@@ -14,6 +14,12 @@ use Rattle.history_text.specs.Readings.{HasFault, HasHistory}
 use Rattle.history_check.specs.declared.verdict.Verdict.{Verdict}
 use Rattle.history_check.specs.declared.verdict.Verdict.TheVariants as verdict
 use Rattle.history_check.specs.Verdicts.{IsVerdict}
+use Rattle.log_check.specs.declared.verdict.LogVerdict.{LogVerdict}
+use Rattle.log_check.specs.declared.verdict.LogVerdict.TheVariants as of_log
+use Rattle.log_check.specs.declared.verdict.ReportVerdict.TheVariants as of_report
+use Rattle.log_check.specs.declared.verdict.ScriptVerdict.{ScriptVerdict}
+use Rattle.log_check.specs.declared.verdict.ScriptVerdict.TheVariants as of_script
+use Rattle.log_check.specs.Verdicts.{IsScriptVerdict}
 use Rattle.judge_run.specs.declared.outcome.Said.{Said}
 use Rattle.judge_run.specs.declared.outcome.Said.TheVariants as said
 use Rattle.judge_run.specs.declared.outcome.Outcome.{Outcome}
@@ -26,6 +32,21 @@ use Rattle.judge_run.specs.Words.{is_asked}
 
 -- ---- numbers and messages
 
+-- the number with which a process ends that says this of a log
+abbrev pub number_of_log : LogVerdict → ℕ
+number_of_log (of_log.Stands root) = 0
+number_of_log (of_log.MayNotCome n) = 1
+number_of_log (of_log.NotSo n) = 1
+number_of_log (of_log.NoItem n) = 1
+number_of_log (of_log.NotShown n) = 4
+
+-- and this of a script, and of a log or a report
+abbrev pub number_of_script : ScriptVerdict → ℕ
+number_of_script (of_script.Log v) = number_of_log v
+number_of_script (of_script.Report (of_report.Stands root)) = 0
+number_of_script (of_script.Report (of_report.NotFound n)) = 4
+number_of_script (of_script.Fault fault) = 3
+
 -- the number with which a process ends that says this
 abbrev pub number_of_said : Said → ℕ
 number_of_said said.Legal = 0
@@ -33,6 +54,7 @@ number_of_said (said.MayNotCome n) = 1
 number_of_said (said.NotSo n) = 1
 number_of_said (said.NoItem n) = 1
 number_of_said (said.Fault fault) = 3
+number_of_said (said.OfScript v) = number_of_script v
 
 -- the number with which the process ends
 abbrev pub number_of : Outcome → ℕ
@@ -76,6 +98,7 @@ Says (said.MayNotCome n) input = IsOf (verdict.MayNotCome n) input
 Says (said.NotSo n) input = IsOf (verdict.NotSo n) input
 Says (said.NoItem n) input = (program : Program) × (jobs : Shape) × HasHistory program jobs (Err n) input
 Says (said.Fault fault) input = HasFault fault input
+Says (said.OfScript v) input = IsScriptVerdict v input
 
 -- ---- calls
 
@@ -111,7 +134,7 @@ pub record BreaksOff (asked : Bool) (source source' sink sink' : Stream) : Type 
   pub answers : Answers what source source' text
   pub part : TookPart text sink.bytes sink'.bytes
 
--- why a call has nothing to write; that no memory was found, or no line `history`, says nothing
+-- why a call has nothing to write; that no memory was found, or no line that says what is judged, says nothing
 abbrev pub Fails : Outcome → Bool → Stream → Stream → Type 0
 Fails (outcomes.Told what) asked source source' = ⊥
 Fails outcomes.Refused asked source source' = (asked ≡ false) × (source ≡ source')

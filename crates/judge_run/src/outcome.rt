@@ -2,13 +2,14 @@
 
 ghost use Rattle.std.specs.Prelude.{◌≡◌};
 ghost use Rattle.std.specs.Process.{exit_status};
-ghost use Rattle.judge_run.specs.Outcomes.{message_of, number_of, number_of_said};
+ghost use Rattle.judge_run.specs.Outcomes.{message_of, number_of, number_of_log, number_of_said, number_of_script};
 
 use history_text::ScriptFault;
+use log_check::{LogVerdict, ReportVerdict, ScriptVerdict};
 use std::process::ExitCode;
 use thiserror::Error;
 
-/// What is said of an input. The lines of its history are numbered from 1.
+/// What is said of an input. The lines of its history, log or report are numbered from 1.
 #[derive(Clone, Copy)]
 pub enum Said {
     /// Each act may come where it comes, and each note holds.
@@ -21,6 +22,8 @@ pub enum Said {
     NoItem(u32),
     /// What stands before the history does not declare channels.
     Fault(ScriptFault),
+    /// This is said of a script and of a log or a report.
+    OfScript(ScriptVerdict),
 }
 
 /// What a call comes to.
@@ -30,7 +33,7 @@ pub enum Outcome {
     Told(Said),
     /// The words are not those of a call.
     Refused,
-    /// The input has no line `history`.
+    /// The input has no line `history`, `log` or `report`.
     NoHistory,
     /// The input is longer than it may be.
     TooLong,
@@ -45,9 +48,9 @@ pub enum Outcome {
 /// What standard error says.
 #[derive(Clone, Copy, Debug, Error)]
 pub enum Message {
-    #[error("usage: judge_run < HISTORY")]
+    #[error("usage: judge_run < INPUT")]
     Usage,
-    #[error("the input has no line `history`")]
+    #[error("the input has no line `history`, `log` or `report`")]
     NoHistory,
     #[error("an input has at most 67108864 bytes")]
     TooLong,
@@ -59,6 +62,27 @@ pub enum Message {
     NoMemory,
 }
 
+fn number_of_log(v: LogVerdict) -> u8
+    ensures { result ≡ number_of_log v }
+{
+    match v {
+        LogVerdict::Stands(_) => 0,
+        LogVerdict::MayNotCome(_) | LogVerdict::NotSo(_) | LogVerdict::NoItem(_) => 1,
+        LogVerdict::NotShown(_) => 4,
+    }
+}
+
+fn number_of_script(v: ScriptVerdict) -> u8
+    ensures { result ≡ number_of_script v }
+{
+    match v {
+        ScriptVerdict::Log(v) => number_of_log(v),
+        ScriptVerdict::Report(ReportVerdict::Stands(_)) => 0,
+        ScriptVerdict::Report(ReportVerdict::NotFound(_)) => 4,
+        ScriptVerdict::Fault(_) => 3,
+    }
+}
+
 fn number_of_said(said: Said) -> u8
     ensures { result ≡ number_of_said said }
 {
@@ -66,6 +90,7 @@ fn number_of_said(said: Said) -> u8
         Said::Legal => 0,
         Said::MayNotCome(_) | Said::NotSo(_) | Said::NoItem(_) => 1,
         Said::Fault(_) => 3,
+        Said::OfScript(v) => number_of_script(v),
     }
 }
 

@@ -1,14 +1,15 @@
 //! The lines that are written.
 
 ghost use Rattle.std.specs.Prelude.{◌≡◌, ◌++◌, IfOk, Some, string_bytes};
-ghost use Rattle.judge_run.specs.Texts.{HasLine, fault_text, kind_text, said_text};
+ghost use Rattle.judge_run.specs.Texts.{HasLine, fault_text, kind_text, log_text, said_text, script_text, stands_text};
 
 use crate::outcome::Said;
 use co_base::{ChannelId, Memory, Row};
 use history_check::Stood;
 use history_text::{FaultKind, Input, ScriptFault};
-use job_model::{Cause, JobState};
+use job_model::{Cause, End, JobState};
 use job_replay::JobLook;
+use log_check::{LogVerdict, ReportVerdict, ScriptVerdict};
 use one_thread_floor::Snapshot;
 use std::alloc::{AllocError, Global};
 use std::fmt;
@@ -51,6 +52,44 @@ fn fault_line(alloc: Global, fault: ScriptFault) -> Result<String, AllocError>
     Ok(text)
 }
 
+/// The line of a log or a report that stands.
+fn stands_line(alloc: Global, root: Option<End>) -> Result<String, AllocError>
+    ensures { IfOk result (λ line. string_bytes line ≡ stands_text root) }
+{
+    match root {
+        None => format!(in alloc; "stands unfinished\n"),
+        Some(End::Completed(_)) => format!(in alloc; "stands completed\n"),
+        Some(End::Cancelled(_)) => format!(in alloc; "stands cancelled\n"),
+    }
+}
+
+/// The line of what is said of a log.
+fn log_line(alloc: Global, v: LogVerdict) -> Result<String, AllocError>
+    ensures { IfOk result (λ line. string_bytes line ≡ log_text v) }
+{
+    match v {
+        LogVerdict::Stands(root) => stands_line(alloc, root),
+        LogVerdict::MayNotCome(line) => format!(in alloc; "line {line}: may not come\n"),
+        LogVerdict::NotSo(line) => format!(in alloc; "line {line}: not so\n"),
+        LogVerdict::NoItem(line) => format!(in alloc; "line {line}: no item\n"),
+        LogVerdict::NotShown(line) => format!(in alloc; "line {line}: not shown\n"),
+    }
+}
+
+/// The line of what is said of a script, and of a log or a report.
+fn script_line(alloc: Global, v: ScriptVerdict) -> Result<String, AllocError>
+    ensures { IfOk result (λ line. string_bytes line ≡ script_text v) }
+{
+    match v {
+        ScriptVerdict::Log(v) => log_line(alloc, v),
+        ScriptVerdict::Report(ReportVerdict::Stands(root)) => stands_line(alloc, root),
+        ScriptVerdict::Report(ReportVerdict::NotFound(line)) => {
+            format!(in alloc; "not found: line {line}\n")
+        }
+        ScriptVerdict::Fault(fault) => fault_line(alloc, fault),
+    }
+}
+
 /// The line of what is said.
 fn line_of(alloc: Global, said: Said) -> Result<String, AllocError>
     ensures { IfOk result (λ line. string_bytes line ≡ said_text said) }
@@ -61,6 +100,7 @@ fn line_of(alloc: Global, said: Said) -> Result<String, AllocError>
         Said::NotSo(line) => format!(in alloc; "line {line}: not so\n"),
         Said::NoItem(line) => format!(in alloc; "line {line}: no item\n"),
         Said::Fault(fault) => fault_line(alloc, fault),
+        Said::OfScript(v) => script_line(alloc, v),
     }
 }
 

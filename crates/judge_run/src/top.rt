@@ -8,9 +8,10 @@ use crate::outcome::{Outcome, Said};
 use crate::reading::read_all;
 use crate::texts::text_of;
 use crate::words::is_asked;
-use co_base::{Memory, ReadError, Sink, Source, write_all};
+use co_base::{Memory, OpenGate, ReadError, Sink, Source, write_all};
 use history_check::{Verdict, check_input};
 use history_text::{Input, NoInput, read_input};
+use log_check::judge_script;
 use std::alloc::Global;
 
 /// What is said, and the text that says it.
@@ -20,7 +21,7 @@ pub struct Answer {
     pub text: Vec<u8>,
 }
 
-/// Does what the words ask for, of which the first is the program's name: reads channels and a history, and writes what is said
+/// Does what the words ask for, of which the first is the program's name: reads an input, and writes what is said
 /// of it.
 ///
 /// The order is words, input, answer; the text is made whole before its first byte is written.
@@ -91,8 +92,20 @@ fn read_answer<S: Source>(alloc: Global, source: &mut S) -> Result<Answer, Outco
     }
 }
 
-/// Makes the answer to these bytes.
+/// Makes the answer to these bytes: of a script with a log or a report, or of a history.
 fn answer_of(alloc: Global, bytes: &[u8]) -> Result<Answer, Outcome>
+    requires { length bytes.now ≤ 67108864 }
+    ensures { IsMadeOf bytes.now result }
+{
+    match judge_script(alloc, bytes, &OpenGate) {
+        Ok(Some(v)) => told(alloc, Said::OfScript(v)),
+        Ok(None) => history_answer(alloc, bytes),
+        Err(_) => Err(Outcome::NoMemory),
+    }
+}
+
+/// Makes the answer to a history.
+fn history_answer(alloc: Global, bytes: &[u8]) -> Result<Answer, Outcome>
     requires { length bytes.now ≤ 67108864 }
     ensures { IsMadeOf bytes.now result }
 {

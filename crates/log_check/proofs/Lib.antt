@@ -1,0 +1,4 @@
+mod Cuts
+mod Named
+mod Written
+mod Judging

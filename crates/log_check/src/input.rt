@@ -1,0 +1,70 @@
+//! An input, judged.
+
+ghost use Rattle.std.specs.Prelude.{◌≤◌, IfOk, IfSome, length};
+ghost use Rattle.script_reader.specs.Scripts.{program_of};
+ghost use Rattle.log_check.specs.Verdicts.{IsScriptVerdict, IsVerdictBy, IsVerdictOn};
+
+use crate::log::judge_log;
+use crate::parts::{Subject, parts_of};
+use crate::report::judge_report;
+use crate::verdict::ScriptVerdict;
+use co_base::{Gate, Memory};
+use script_grammar::FaultKind;
+use script_reader::{Script, read};
+use std::alloc::Global;
+
+/// Judges a text by a script.
+fn judge_by<G: Gate>(
+    alloc: Global,
+    script: &Script,
+    subject: Subject,
+    text: &[u8],
+    gate: &G,
+) -> Result<ScriptVerdict, Memory>
+    requires { length text.now ≤ 67108864 }
+    ensures { IfOk result (λ v. IsVerdictBy v subject (program_of script.now) text.now) }
+{
+    match subject {
+        Subject::Log => Ok(ScriptVerdict::Log(judge_log(alloc, script, text, gate)?)),
+        Subject::Report => Ok(ScriptVerdict::Report(judge_report(alloc, script, text, gate)?)),
+    }
+}
+
+/// Judges a text by the text of a script.
+fn judge_parts<G: Gate>(
+    alloc: Global,
+    script: &[u8],
+    subject: Subject,
+    text: &[u8],
+    gate: &G,
+) -> Result<ScriptVerdict, Memory>
+    requires { length text.now ≤ 67108864 }
+    ensures { IfOk result (λ v. IsVerdictOn v subject script.now text.now) }
+{
+    match read(alloc, script) {
+        Ok(script) => judge_by(alloc, &script, subject, text, gate),
+        Err(fault) => match fault.kind {
+            FaultKind::Memory => Err(Memory),
+            _ => Ok(ScriptVerdict::Fault(fault)),
+        },
+    }
+}
+
+/// Judges an input: a script, a line `log` or `report`, and the log or the report. Nothing, if neither line is there, or one `history`
+/// stands before it.
+#[tactic(auto, using(crate::proofs::Judging::of_parts))]
+pub fn judge_script<G: Gate>(
+    alloc: Global,
+    bytes: &[u8],
+    gate: &G,
+) -> Result<Option<ScriptVerdict>, Memory>
+    requires { length bytes.now ≤ 67108864 }
+    ensures { IfOk result (λ found. IfSome found (λ v. IsScriptVerdict v bytes.now)) }
+{
+    match parts_of(bytes) {
+        Some((script, subject, text)) => {
+            Ok(Some(judge_parts(alloc, script, subject, text, gate)?))
+        }
+        None => Ok(None),
+    }
+}

@@ -1,0 +1,33 @@
+//! Whether a log or a report is that of a run of a script.
+//!
+//! The run is made again: an order of whole polls is looked for in which the engine writes these lines, which is not trusted; then the
+//! engine runs the script in this order, and what it left is compared with what is judged.
+//!
+//! - `parts`: the parts of an input.
+//! - `names`: the names of channels, and the lines of a log.
+//! - `same`: whether two notes are the same.
+//! - `books`: the books that the lines of a log are.
+//! - `verdict`: what is said of an input.
+//! - `places`: what the notes of a run say of places, channels and rows.
+//! - `walk`: the search for an order of polls.
+//! - `way`: the order in which a run writes given lines.
+//! - `log`: a log, judged; `report`: a report, judged.
+//! - `input`: an input, judged.
+#![tactic(auto)]
+
+mod books;
+mod input;
+mod log;
+mod names;
+mod parts;
+mod places;
+mod report;
+mod same;
+mod verdict;
+mod walk;
+mod way;
+
+pub use input::judge_script;
+pub use log::judge_log;
+pub use report::judge_report;
+pub use verdict::{LogVerdict, ReportVerdict, ScriptVerdict};

@@ -1,0 +1,371 @@
+//! The search for an order of polls: depth first, each state once. It is not trusted.
+
+ghost use Rattle.std.specs.Prelude.{OnOk};
+ghost use Rattle.script_reader.specs.Scripts.{program_of};
+ghost use Rattle.engine_one.specs.Trials.{TrialStands};
+
+use crate::places::Places;
+use crate::same::same_item;
+use co_base::{Gate, Memory, Tag};
+use engine_one::Trial;
+use history_text::Line;
+use note_book::{Item, Notes};
+use script_reader::Script;
+use std::alloc::Global;
+use std::collections::HashSet;
+
+/// The lines that a run is to write.
+#[derive(Clone, Copy)]
+pub(crate) struct Wanted<'a> {
+    pub(crate) script: &'a Script,
+    pub(crate) lines: &'a [Line],
+    /// Whether they are to be written in their order; else in that of each coroutine.
+    pub(crate) ordered: bool,
+    /// In which order coroutines are tried.
+    pub(crate) attempt: u32,
+}
+
+/// What a run on its way has written, and what is left to be tried at each of its polls.
+#[derive(Drop)]
+pub(crate) struct Path {
+    places: Places,
+    /// Of each coroutine where its lines stand.
+    own: Vec<Vec<u32>>,
+    /// Behind each poll the number of the next choice.
+    choices: Vec<u32>,
+    /// Before each poll how many lines were written.
+    marks: Vec<usize>,
+    pub(crate) done: usize,
+    /// How many polls were made.
+    pub(crate) polls: u64,
+    seen: HashSet<u64>,
+    numbers: Vec<u64>,
+    /// The most lines that were written, and the number of a line that could not be written then.
+    most: usize,
+    pub(crate) stuck: usize,
+}
+
+/// How many lines of a coroutine are written.
+fn written_by(trial: &Trial<Notes>, tag: Tag) -> usize {
+    match trial.book(tag as usize) {
+        Some(book) => book.items().len(),
+        None => 0,
+    }
+}
+
+fn item_of(trial: &Trial<Notes>, tag: Tag, number: usize) -> Option<Item> {
+    trial.book(tag as usize)?.items().get(number).copied()
+}
+
+impl Path {
+    /// Before the first poll. What the root noted before it is written already; if that is not what was wanted, no poll is left.
+    pub(crate) fn begin(
+        alloc: Global,
+        wanted: Wanted,
+        trial: &Trial<Notes>,
+    ) -> Result<Path, Memory> {
+        let mut path = Path::new(alloc, wanted)?;
+        if path.fits(wanted, trial, 0, 0) {
+            path.keep(wanted, trial, 0, 0)?;
+            path.marks.clear();
+            let _choice = path.choices.pop();
+        } else {
+            path.choices.clear();
+        }
+        Ok(path)
+    }
+
+    fn new(alloc: Global, wanted: Wanted) -> Result<Path, Memory> {
+        let script = wanted.script;
+        let rows = script.jobs() as usize;
+        let channels = script.channels().len().saturating_add(rows);
+        let mut choices = Vec::new(alloc);
+        choices.push(0)?;
+        Ok(Path {
+            own: own_of(alloc, script.coroutines(), wanted.lines)?,
+            places: Places::new(alloc, channels, rows)?,
+            choices,
+            marks: Vec::new(alloc),
+            done: 0,
+            polls: 0,
+            seen: HashSet::new(alloc),
+            numbers: Vec::new(alloc),
+            most: 0,
+            stuck: 1,
+        })
+    }
+
+    /// Where the line of a coroutine stands that has this number among its own.
+    fn own_line(&self, tag: Tag, number: usize) -> Option<usize> {
+        let own = self.own.get(tag as usize)?;
+        let at = own.get(number).copied()?;
+        Some(at as usize)
+    }
+
+    /// The number of the next choice, if one is left.
+    fn next_choice(&mut self, wanted: Wanted) -> Option<u32> {
+        let last = self.choices.last_mut()?;
+        let choice = *last;
+        if choice > u32::from(wanted.script.coroutines()) {
+            return None;
+        }
+        *last = choice.saturating_add(1);
+        Some(choice)
+    }
+
+    /// The coroutine of a choice, if it may be polled.
+    fn tag_of(&self, wanted: Wanted, trial: &Trial<Notes>, choice: u32) -> Option<Tag> {
+        if wanted.ordered {
+            let next = wanted.lines.get(self.done)?.who;
+            if choice == 0 {
+                return Some(next);
+            }
+            let tag = Tag::try_from(choice.saturating_sub(1)).ok()?;
+            return if tag == next { None } else { Some(tag) };
+        }
+        let tag = self.turned(wanted, trial, choice)?;
+        let at = self.own_line(tag, written_by(trial, tag))?;
+        let item = wanted.lines.get(at)?.item;
+        if self.places.may_come(trial, item) {
+            Some(tag)
+        } else {
+            None
+        }
+    }
+
+    /// The coroutine of a choice, by the order in which this attempt tries them.
+    fn turned(&self, wanted: Wanted, trial: &Trial<Notes>, choice: u32) -> Option<Tag> {
+        let count = u32::from(wanted.script.coroutines());
+        if choice >= count {
+            return None;
+        }
+        let last = match trial.made().last() {
+            Some(tag) => u32::from(*tag),
+            None => 0,
+        };
+        let turn = match wanted.attempt {
+            0 => 0,
+            1 => last.saturating_add(1),
+            other => mixed(self.marks.len(), other),
+        };
+        let tag = turn.wrapping_add(choice).checked_rem(count)?;
+        Tag::try_from(tag).ok()
+    }
+
+    /// Whether what a poll wrote is what was wanted.
+    fn fits(&mut self, wanted: Wanted, trial: &Trial<Notes>, tag: Tag, before: usize) -> bool {
+        let written = written_by(trial, tag);
+        for number in before..written {
+            let line = self.done.saturating_add(number.saturating_sub(before));
+            let fit = match self.own_line(tag, number) {
+                Some(at) => {
+                    (!wanted.ordered || at == line)
+                        && is_same(wanted.lines.get(at), item_of(trial, tag, number))
+                }
+                None => false,
+            };
+            if !fit {
+                if wanted.ordered {
+                    self.reach(line, line.saturating_add(1));
+                }
+                return false;
+            }
+        }
+        true
+    }
+
+    /// So many lines were written, and then this one could not be.
+    fn reach(&mut self, written: usize, stuck: usize) {
+        if written >= self.most {
+            self.most = written;
+            self.stuck = stuck;
+        }
+    }
+
+    /// The number of the first line that is not written.
+    fn first_left(&self, wanted: Wanted, trial: &Trial<Notes>) -> usize {
+        if wanted.ordered {
+            return self.done.saturating_add(1);
+        }
+        for tag in 0..wanted.script.coroutines() {
+            if let Some(at) = self.own_line(tag, written_by(trial, tag)) {
+                return at.saturating_add(1);
+            }
+        }
+        wanted.lines.len().saturating_add(1)
+    }
+
+    /// Keeps what a poll wrote.
+    fn keep(
+        &mut self,
+        wanted: Wanted,
+        trial: &Trial<Notes>,
+        tag: Tag,
+        before: usize,
+    ) -> Result<(), Memory> {
+        let written = written_by(trial, tag);
+        for number in before..written {
+            if let Some(item) = item_of(trial, tag, number) {
+                self.places.keep(item, false);
+            }
+        }
+        self.marks.push(self.done)?;
+        self.choices.push(0)?;
+        self.done = self.done.saturating_add(written.saturating_sub(before));
+        if self.done > self.most {
+            let stuck = self.first_left(wanted, trial);
+            self.reach(self.done, stuck);
+        }
+        Ok(())
+    }
+
+    /// Forgets what the last poll wrote. The answer says whether there was one.
+    fn forget(&mut self, trial: &Trial<Notes>) -> bool {
+        let Some(mark) = self.marks.pop() else {
+            return false;
+        };
+        let _choice = self.choices.pop();
+        if let Some(tag) = trial.made().last().copied() {
+            let written = written_by(trial, tag);
+            let before = written.saturating_sub(self.done.saturating_sub(mark));
+            for number in before..written {
+                if let Some(item) = item_of(trial, tag, number) {
+                    self.places.keep(item, true);
+                }
+            }
+        }
+        self.done = mark;
+        true
+    }
+
+    /// Whether the run was never here before.
+    fn is_new(
+        &mut self,
+        wanted: Wanted,
+        trial: &Trial<Notes>,
+        noted: bool,
+    ) -> Result<bool, Memory> {
+        if wanted.ordered && noted {
+            return Ok(true);
+        }
+        self.numbers.clear();
+        trial.push_key(&[], &mut self.numbers)?;
+        for tag in 0..wanted.script.coroutines() {
+            self.numbers.push(written_by(trial, tag) as u64)?;
+        }
+        let key = hash_of(self.numbers.as_slice());
+        Ok(self.seen.insert(key)?)
+    }
+}
+
+/// Where the lines of each coroutine stand.
+fn own_of(alloc: Global, coroutines: u16, lines: &[Line]) -> Result<Vec<Vec<u32>>, Memory> {
+    let mut own = Vec::with_capacity(alloc, coroutines as usize)?;
+    for _ in 0..coroutines {
+        own.push(Vec::new(alloc))?;
+    }
+    for (at, line) in lines.iter().enumerate() {
+        let Ok(at) = u32::try_from(at) else {
+            break;
+        };
+        if let Some(places) = own.get_mut(line.who as usize) {
+            places.push(at)?;
+        }
+    }
+    Ok(own)
+}
+
+fn is_same(line: Option<&Line>, item: Option<Item>) -> bool {
+    match (line, item) {
+        (Some(line), Some(item)) => same_item(line.item, item),
+        _ => false,
+    }
+}
+
+/// A number that looks random.
+fn mixed(depth: usize, attempt: u32) -> u32 {
+    let state = (depth as u64)
+        .wrapping_add(1)
+        .wrapping_mul(6364136223846793005)
+        .wrapping_add(u64::from(attempt).wrapping_mul(1442695040888963407));
+    let state = (state ^ (state >> 29)).wrapping_mul(6364136223846793005);
+    u32::try_from(state >> 40).ok().unwrap_or(0)
+}
+
+/// A number that differs for most keys that differ.
+fn hash_of(numbers: &[u64]) -> u64 {
+    let mut hash = 14695981039346656037u64;
+    for number in numbers {
+        hash = (hash ^ *number).wrapping_mul(1099511628211);
+        hash ^= hash >> 32;
+    }
+    hash
+}
+
+/// Brings the run back to where it was before its last poll.
+fn go_back<G: Gate>(
+    alloc: Global,
+    wanted: Wanted,
+    gate: &G,
+    trial: &mut Trial<Notes>,
+    path: &mut Path,
+) -> Result<(), Memory>
+    requires { TrialStands (program_of wanted.script.now) trial.old }
+    ensures { OnOk result (TrialStands (program_of wanted.entry.script.now) trial.new) }
+{
+    let mut order = Vec::from_slice(alloc, trial.made())?;
+    let _last = order.pop();
+    path.polls = path.polls.saturating_add(order.len() as u64);
+    trial.go_to(alloc, wanted.script, gate, order.as_slice())
+}
+
+/// Takes the last poll back. The answer says whether there was one.
+fn take_back<G: Gate>(
+    alloc: Global,
+    wanted: Wanted,
+    gate: &G,
+    trial: &mut Trial<Notes>,
+    path: &mut Path,
+) -> Result<bool, Memory>
+    requires { TrialStands (program_of wanted.script.now) trial.old }
+    ensures { OnOk result (TrialStands (program_of wanted.entry.script.now) trial.new) }
+{
+    if !path.forget(trial) {
+        return Ok(false);
+    }
+    go_back(alloc, wanted, gate, trial, path)?;
+    Ok(true)
+}
+
+/// Tries one poll more, or takes the last one back. The answer says whether anything is left to be tried.
+pub(crate) fn step<G: Gate>(
+    alloc: Global,
+    wanted: Wanted,
+    gate: &G,
+    trial: &mut Trial<Notes>,
+    path: &mut Path,
+) -> Result<bool, Memory>
+    requires { TrialStands (program_of wanted.script.now) trial.old }
+    ensures { OnOk result (TrialStands (program_of wanted.entry.script.now) trial.new) }
+{
+    let Some(choice) = path.next_choice(wanted) else {
+        return take_back(alloc, wanted, gate, trial, path);
+    };
+    let Some(tag) = path.tag_of(wanted, trial, choice) else {
+        return Ok(true);
+    };
+    let before = written_by(trial, tag);
+    path.polls = path.polls.saturating_add(1);
+    let Some(polled) = trial.poll(wanted.script, gate, tag)? else {
+        return Ok(true);
+    };
+    if !path.fits(wanted, trial, tag, before) {
+        go_back(alloc, wanted, gate, trial, path)?;
+        return Ok(true);
+    }
+    path.keep(wanted, trial, tag, before)?;
+    if !path.is_new(wanted, trial, polled.noted)? {
+        let _back = take_back(alloc, wanted, gate, trial, path)?;
+    }
+    Ok(true)
+}

@@ -1,0 +1,131 @@
+//! The order in which a run writes given lines. The search is not trusted: what it finds is run again.
+
+ghost use Rattle.std.specs.Prelude.{◌≤◌, length};
+ghost use Rattle.script_reader.specs.Scripts.{program_of};
+ghost use Rattle.engine_one.specs.Trials.{TrialStands};
+
+use crate::names::lines_of;
+use crate::walk::{Path, Wanted, step};
+use co_base::{Gate, Memory, Tag};
+use engine_one::Trial;
+use history_text::{Line, NoLines};
+use note_book::Notes;
+use report_reader::cut_at;
+use script_reader::Script;
+use std::alloc::Global;
+
+/// How many polls are made at most, besides some for each line.
+const POLLS: u64 = 200000;
+
+/// How many polls more there may be for each line.
+const POLLS_OF_LINE: u64 = 16;
+
+/// In how many orders coroutines are tried.
+const ATTEMPTS: u32 = 8;
+
+/// What a search came to.
+#[derive(Drop)]
+pub(crate) enum Way {
+    /// These coroutines are to be polled, in this order.
+    Found(Vec<Tag>),
+    /// The number, from 1, of a line that could not be written.
+    Stuck(usize),
+}
+
+/// Steps, until the lines are written, or no step is left, or there were too many.
+fn go<G: Gate>(
+    alloc: Global,
+    wanted: Wanted,
+    gate: &G,
+    trial: &mut Trial<Notes>,
+    path: &mut Path,
+) -> Result<bool, Memory>
+    requires { TrialStands (program_of wanted.script.now) trial.old }
+{
+    let lines = wanted.lines.len() as u64;
+    let most = lines.saturating_mul(POLLS_OF_LINE).saturating_add(POLLS);
+    'steps: for _ in 0..most.saturating_mul(64) {
+        if path.done >= wanted.lines.len() {
+            return Ok(true);
+        }
+        if path.polls > most || !step(alloc, wanted, gate, trial, path)? {
+            return Ok(false);
+        }
+    }
+    Ok(false)
+}
+
+/// Looks for the order by one attempt.
+fn way_of<G: Gate>(alloc: Global, wanted: Wanted, gate: &G) -> Result<Way, Memory> {
+    let mut trial = Trial::new(alloc, wanted.script)?;
+    let mut path = Path::begin(alloc, wanted, &trial)?;
+    if go(alloc, wanted, gate, &mut trial, &mut path)? {
+        Ok(Way::Found(Vec::from_slice(alloc, trial.made())?))
+    } else {
+        Ok(Way::Stuck(path.stuck))
+    }
+}
+
+/// An order of polls in which a run writes these lines, in their order.
+pub(crate) fn way_of_log<G: Gate>(
+    alloc: Global,
+    script: &Script,
+    lines: &[Line],
+    gate: &G,
+) -> Result<Way, Memory> {
+    let wanted = Wanted {
+        script,
+        lines,
+        ordered: true,
+        attempt: 0,
+    };
+    way_of(alloc, wanted, gate)
+}
+
+/// The part of a report that has the lines of the coroutines.
+fn books_part(text: &[u8]) -> &[u8]
+    ensures { length result.now ≤ length text.now }
+{
+    let mut rest = text;
+    while let [first, ..] = rest {
+        if *first == b'j' || *first == b'e' {
+            break;
+        }
+        let (_, more) = cut_at(b'\n', rest);
+        match more {
+            Some(next) => rest = next,
+            None => return text,
+        }
+    }
+    &text[..text.len() - rest.len()]
+}
+
+/// An order of polls in which a run writes the lines of a report, each coroutine its own.
+pub(crate) fn way_of_report<G: Gate>(
+    alloc: Global,
+    script: &Script,
+    text: &[u8],
+    gate: &G,
+) -> Result<Way, Memory>
+    requires { length text.now ≤ 67108864 }
+{
+    let lines = match lines_of(alloc, script, books_part(text)) {
+        Ok(lines) => lines,
+        Err(NoLines::AtLine(number)) => return Ok(Way::Stuck(number as usize)),
+        Err(NoLines::Memory) => return Err(Memory),
+    };
+    let mut stuck = 1;
+    for attempt in 0..ATTEMPTS {
+        let wanted = Wanted {
+            script,
+            lines: lines.as_slice(),
+            ordered: false,
+            attempt,
+        };
+        match way_of(alloc, wanted, gate)? {
+            Way::Found(order) => return Ok(Way::Found(order)),
+            Way::Stuck(number) => stuck = number,
+        }
+    }
+    Ok(Way::Stuck(stuck))
+}
