@@ -1,5 +1,6 @@
 -- What one step of a receive gained, by the answers of the hub.
 use Rattle.std.specs.Prelude.{◌≡◌, ◌⊎◌, ℕ, ◌==◌, ◌&&◌, Bool, true, false, List, [], ◌∷◌, ◌++◌, map, Option, Some, None, is_some, refl, if◌then◌else◌}
+use Rattle.co_base.proofs.Orders.{order_same}
 use mathlib.Core.List.{IsPrefix}
 use Rattle.std.proofs.Common.{sym, ap, ◌∙◌, subst, append_assoc, ⊎_elim}
 use Rattle.channel_model.specs.declared.acts.Act.{Act}
@@ -75,7 +76,7 @@ gained_then who c vs ws a b d h k = record {
 pub gained_none : (who c : ℕ) (a : Floor) → Gained who c [] a a
 gained_none who c a = record {
   acts = [];
-  added = added_none who a a (record { shape = refl; alone = refl; callers = refl }) refl;
+  added = added_none who a a (record { shape = refl; alone = refl; callers = refl; order = order_same _ }) refl;
   gets = received_none c;
   only = receiving_none c;
 }

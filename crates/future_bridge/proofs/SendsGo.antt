@@ -1,5 +1,6 @@
 -- What one send comes to, by the answers of the hub.
 use Rattle.std.specs.Prelude.{◌≡◌, ℕ, ◌<◌, List, [], ◌∷◌, ◌++◌, map, Option, Some, None, is_some, true, false, refl}
+use Rattle.co_base.proofs.Orders.{order_same}
 use Rattle.std.specs.List.{list_all}
 use Rattle.std.proofs.Common.{sym, ap, ◌∙◌, subst, true≢false}
 use Rattle.channel_model.specs.declared.acts.Act.{Act}
@@ -32,7 +33,7 @@ pub record Trimmed (who c : ℕ) (old new : Floor) : Type 0 where
   pub added : Added who (map (λ d. Drop c d.0 d.1) dropped) old new
 
 pub trimmed_none : (who c : ℕ) (a : Floor) → Trimmed who c a a
-trimmed_none who c a = record { dropped = []; added = added_none who a a (record { shape = refl; alone = refl; callers = refl }) refl }
+trimmed_none who c a = record { dropped = []; added = added_none who a a (record { shape = refl; alone = refl; callers = refl; order = order_same _ }) refl }
 
 map_push : (c : ℕ) (x : ℕ × ℕ) (ds : List (ℕ × ℕ)) → map (λ (d : ℕ × ℕ). Drop c d.0 d.1) ds
     ++ Drop c x.0 x.1 ∷ [] ≡ map (λ (d : ℕ × ℕ). Drop c d.0 d.1) (ds ++ x ∷ [])

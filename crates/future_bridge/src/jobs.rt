@@ -77,24 +77,14 @@ impl<'hub, 'forest> JobFuture<'hub, 'forest> {
             }),
         }
     }
-}
 
-impl<'hub, 'forest> Future for JobFuture<'hub, 'forest> {
-    type Output = (Pass, JobPass, Result<Value, Spent>);
-
-    ghost can_poll = { FutureStands };
-
-    ghost gives = { FutureGives };
-
-    fn poll(&mut self, cx: &mut Context<'_>) -> Poll<Self::Output>
+    /// What a poll does, for one who waits in another way: starts the Job at the first time, and looks whether it ended.
+    pub fn step(&mut self) -> Poll<(Pass, JobPass, Result<Value, Spent>)>
         requires { FutureStands self.old }
         ensures value { IfReady result (FutureGives self.old) }
         ensures again { OnPending result (FutureStands self.new) }
         ensures same { OnPending result (GivesNoMore self.old self.new) }
-        ensures registered { OnPending result (Covers cx.new (λ s. ⊥)) }
-        ensures kept { Keeps cx.old cx.new }
         ensures waits { OnPending result (IsLeftAwaiting self.old self.new) }
-        ensures yields { OnPending result (cx.new.is_woken ≡ true) }
     {
         let Some(taken) = self.state.take() else {
             unreachable!()
@@ -125,8 +115,32 @@ impl<'hub, 'forest> Future for JobFuture<'hub, 'forest> {
                     done,
                     wait: Some(place),
                 });
-                cx.yield_now()
+                Poll::Pending
             }
+        }
+    }
+}
+
+impl<'hub, 'forest> Future for JobFuture<'hub, 'forest> {
+    type Output = (Pass, JobPass, Result<Value, Spent>);
+
+    ghost can_poll = { FutureStands };
+
+    ghost gives = { FutureGives };
+
+    fn poll(&mut self, cx: &mut Context<'_>) -> Poll<Self::Output>
+        requires { FutureStands self.old }
+        ensures value { IfReady result (FutureGives self.old) }
+        ensures again { OnPending result (FutureStands self.new) }
+        ensures same { OnPending result (GivesNoMore self.old self.new) }
+        ensures registered { OnPending result (Covers cx.new (λ s. ⊥)) }
+        ensures kept { Keeps cx.old cx.new }
+        ensures waits { OnPending result (IsLeftAwaiting self.old self.new) }
+        ensures yields { OnPending result (cx.new.is_woken ≡ true) }
+    {
+        match self.step() {
+            Poll::Ready(given) => Poll::Ready(given),
+            Poll::Pending => cx.yield_now(),
         }
     }
 }

@@ -6,14 +6,15 @@ ghost use Rattle.job_model.specs.Cancels.{IsAllCancelled};
 ghost use Rattle.scope_builders.specs.Calls.{SameBuilder, seen, MayBuild};
 ghost use Rattle.library_examples.specs.Examples.{SawResult, SawSome};
 
+use call_meaning::JobsBeside;
 use channel_model::ChannelFloor;
 use co_base::{Memory, Row, Tag, Value, Wakes};
-use job_model::{End, JobFloor};
+use job_model::End;
 use note_book::NoteBook;
 use scope_builders::{Builder, Joined, LaunchError};
 
 /// Launches a coroutine as a child of a Job, and cancels it before it ran. In the end its Job is Cancelling or ended, with all below it.
-pub(crate) fn launch_and_cancel<C: ChannelFloor, J: JobFloor, B: NoteBook, W: Wakes>(
+pub(crate) fn launch_and_cancel<C: ChannelFloor, J: JobsBeside<C>, B: NoteBook, W: Wakes>(
     builder: &mut Builder<'_, '_, '_, '_, C, J, B, W>,
     parent: Row,
     tag: Tag,
@@ -34,7 +35,7 @@ pub(crate) fn launch_and_cancel<C: ChannelFloor, J: JobFloor, B: NoteBook, W: Wa
 }
 
 /// The result of a Job, if its done channel is closed and it has completed: then the last note is that the caller saw so.
-pub(crate) fn result_of<C: ChannelFloor, J: JobFloor, B: NoteBook, W: Wakes>(
+pub(crate) fn result_of<C: ChannelFloor, J: JobsBeside<C>, B: NoteBook, W: Wakes>(
     builder: &mut Builder<'_, '_, '_, '_, C, J, B, W>,
     row: Row,
 ) -> Result<Option<Value>, Memory>
@@ -55,7 +56,7 @@ pub(crate) fn result_of<C: ChannelFloor, J: JobFloor, B: NoteBook, W: Wakes>(
 }
 
 /// Enters a scope below a Job, ends its body with a value, and waits for its end: the result of the scope. None: it has not completed.
-pub(crate) fn scope_result<C: ChannelFloor, J: JobFloor, B: NoteBook, W: Wakes>(
+pub(crate) fn scope_result<C: ChannelFloor, J: JobsBeside<C>, B: NoteBook, W: Wakes>(
     builder: &mut Builder<'_, '_, '_, '_, C, J, B, W>,
     parent: Row,
     value: Value,

@@ -1,5 +1,6 @@
 -- Admits, one after the other.
 use Rattle.std.specs.Prelude.{◌≡◌, ℕ, ◌<◌, ◌&&◌, Bool, true, [], ◌∷◌, ◌++◌, refl}
+use Rattle.co_base.proofs.Orders.{order_same}
 use Rattle.std.proofs.Common.{ap, sym, ◌∙◌, subst}
 use Rattle.std.proofs.lemmas.List.Folds.{list_all-append}
 use Rattle.std.specs.List.{list_all}
@@ -15,7 +16,7 @@ use Rattle.cell_calls.specs.Desks.{desk_anchor}
 use Rattle.parcel_channel.specs.Numbers.{CarriesNumbers, is_admit, Admits, AdmitsAll}
 
 same_floor : (a : Floor) → SameSetting a a
-same_floor a = record { shape = refl; alone = refl; callers = refl }
+same_floor a = record { shape = refl; alone = refl; callers = refl; order = order_same _ }
 
 admits_then : (who : ℕ) (a b c : Floor) → Admits who a b → Admits who b c → Admits who a c
 admits_then who a b c x y = record {

@@ -3,7 +3,8 @@ use Rattle.std.specs.Prelude.{◌≡◌, ◌⊎◌, ℕ, ◌<◌, ◌≤◌, Boo
 use lib.ListN.{get_elem?}
 use Rattle.co_base.specs.declared.names.WaitId.{WaitId}
 use Rattle.channel_model.specs.Floors.{Floor}
-use Rattle.channel_model.specs.Answers.{WakeAnswer, DrainAnswer}
+use Rattle.channel_model.specs.Answers.{TriedOfferAnswer, WakeAnswer, DrainAnswer}
+use Rattle.channel_model.specs.declared.floor.TriedOffer.TheVariants as tried_offer
 use Rattle.parcel_channel.specs.declared.waits.Placed.TheVariants as placed
 use Rattle.parcel_channel.specs.declared.waits.Received.TheVariants as received
 use Rattle.parcel_channel.specs.declared.waits.TriedReceived.TheVariants as tried_received
@@ -16,6 +17,8 @@ use Rattle.parcel_channel.specs.declared.hub.ParcelHub.{ParcelHub}
 use Rattle.parcel_channel.specs.declared.hub.ParcelPass.{ParcelPass}
 use Rattle.parcel_channel.specs.declared.answers.ParcelSent.{ParcelSent}
 use Rattle.parcel_channel.specs.declared.answers.ParcelSent.TheVariants as sent
+use Rattle.parcel_channel.specs.declared.answers.ParcelOffered.{ParcelOffered}
+use Rattle.parcel_channel.specs.declared.answers.ParcelOffered.TheVariants as offered
 use Rattle.parcel_channel.specs.declared.answers.ParcelGot.{ParcelGot}
 use Rattle.parcel_channel.specs.declared.answers.ParcelGot.TheVariants as found
 use Rattle.parcel_channel.specs.declared.answers.ParcelTried.{ParcelTried}
@@ -34,6 +37,13 @@ IsCopied from to = (k : ℕ) → k < length to → get_elem? to k ≡ get_elem? 
 abbrev pub WakeParcel : ℕ → Floor → Floor → Option ℕ → Type 0
 WakeParcel who old new (Some t) = (place : ℕ) × WakeAnswer who 0 old new (Some (place, t))
 WakeParcel who old new None = WakeAnswer who 0 old new None
+
+-- who tried to send a number, and the channel was full, closed or had no place left
+abbrev pub TriedInVain : ℕ → ℕ → Floor → Floor → Type 0
+TriedInVain who k old new =
+    TriedOfferAnswer who 0 k old new tried_offer.Full
+    ⊎ ((c : ℕ) × TriedOfferAnswer who 0 k old new (tried_offer.Closed c))
+    ⊎ TriedOfferAnswer who 0 k old new tried_offer.Spent
 
 module _ {T : Type 0} where
   -- the pass is one of this channel
@@ -95,6 +105,39 @@ module _ {T : Type 0} where
   SendAnswer parcels who x v w old new (sent.NoParcel y) = PutAnswer parcels who x v w (Err y) × (new ≡ old)
   SendAnswer parcels who x v w old new sent.Lost =
       (k : ℕ) × (u : Seen T) × PutAnswer parcels who x v u (Ok k) × Refused who k old new × TakeAnswer who k u w None
+
+  -- what became of a number that was tried; where it was not sent, its value was moved out again
+  abbrev pub NumberTried : ℕ → ℕ → Seen T → Seen T → Floor → Floor → ParcelOffered T → Type 0
+  NumberTried who k v w old new (offered.Sent (Some t)) =
+      (place : ℕ) × TriedOfferAnswer who 0 k old new (tried_offer.Handed place t) × (w ≡ v)
+  NumberTried who k v w old new (offered.Sent None) = (place : ℕ) × TriedOfferAnswer who 0 k old new (tried_offer.Put place) × (w ≡ v)
+  NumberTried who k v w old new (offered.Full y) =
+      TriedOfferAnswer who 0 k old new tried_offer.Full × TakeAnswer who k v w (Some y) × IsOnly k y v.seen
+  NumberTried who k v w old new (offered.Closed y c) =
+      TriedOfferAnswer who 0 k old new (tried_offer.Closed c) × TakeAnswer who k v w (Some y) × IsOnly k y v.seen
+  NumberTried who k v w old new (offered.Spent y) =
+      TriedOfferAnswer who 0 k old new tried_offer.Spent × TakeAnswer who k v w (Some y) × IsOnly k y v.seen
+  NumberTried who k v w old new (offered.NoParcel y) = ⊥
+  NumberTried who k v w old new offered.Lost = TriedInVain who k old new × TakeAnswer who k v w None
+
+  -- the value was moved in before its number was tried, which never waits; where it was not sent, the same value comes back
+  abbrev pub TrySendAnswer : ℕ → ℕ → T → Seen T → Seen T → Floor → Floor → ParcelOffered T → Type 0
+  TrySendAnswer parcels who x v w old new (offered.Sent (Some t)) =
+      (k : ℕ) × (place : ℕ) × PutAnswer parcels who x v w (Ok k) × TriedOfferAnswer who 0 k old new (tried_offer.Handed place t)
+  TrySendAnswer parcels who x v w old new (offered.Sent None) =
+      (k : ℕ) × (place : ℕ) × PutAnswer parcels who x v w (Ok k) × TriedOfferAnswer who 0 k old new (tried_offer.Put place)
+  TrySendAnswer parcels who x v w old new (offered.Full y) =
+      (k : ℕ) × (u : Seen T) × PutAnswer parcels who x v u (Ok k) × TriedOfferAnswer who 0 k old new tried_offer.Full
+      × TakeAnswer who k u w (Some y) × (y ≡ x)
+  TrySendAnswer parcels who x v w old new (offered.Closed y c) =
+      (k : ℕ) × (u : Seen T) × PutAnswer parcels who x v u (Ok k) × TriedOfferAnswer who 0 k old new (tried_offer.Closed c)
+      × TakeAnswer who k u w (Some y) × (y ≡ x)
+  TrySendAnswer parcels who x v w old new (offered.Spent y) =
+      (k : ℕ) × (u : Seen T) × PutAnswer parcels who x v u (Ok k) × TriedOfferAnswer who 0 k old new tried_offer.Spent
+      × TakeAnswer who k u w (Some y) × (y ≡ x)
+  TrySendAnswer parcels who x v w old new (offered.NoParcel y) = PutAnswer parcels who x v w (Err y) × (new ≡ old)
+  TrySendAnswer parcels who x v w old new offered.Lost =
+      (k : ℕ) × (u : Seen T) × PutAnswer parcels who x v u (Ok k) × TriedInVain who k old new × TakeAnswer who k u w None
 
   -- the slot of this number held no value, or there is no such number
   abbrev pub IsLost : ℕ → ℕ → ℕ → Seen T → Seen T → Type 0

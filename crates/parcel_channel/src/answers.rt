@@ -21,6 +21,22 @@ pub enum ParcelSent<T> {
     Lost,
 }
 
+/// What a send answers that never waits. Where the value was not sent it comes back, unless it was lost.
+#[derive(Drop)]
+pub enum ParcelOffered<T> {
+    /// It was sent; the coroutine of the receiver that was handed it, if one was.
+    Sent(Option<Tag>),
+    /// It would have had to wait.
+    Full(T),
+    Closed(T, Value),
+    /// The channel has no place left.
+    Spent(T),
+    /// No number is left.
+    NoParcel(T),
+    /// It was not sent, and its slot held no value.
+    Lost,
+}
+
 /// What a receive answers.
 #[derive(Drop)]
 pub enum ParcelGot<T> {

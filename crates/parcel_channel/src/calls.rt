@@ -1,23 +1,23 @@
 //! To send, to receive and to settle a wait.
 ghost use Rattle.std.specs.Prelude.{◌≡◌, ◌<◌, Some, None, IfSome, MatchOption};
 ghost use Rattle.channel_model.specs.declared.acts.Why.TheVariants as why;
-ghost use Rattle.channel_model.specs.Answers.{IsReady, IsOwn as IsOwnWaitOf, IsSeenClosed, IsSeenVoided};
+ghost use Rattle.channel_model.specs.Answers.{IsReady, IsSeenClosed, IsSeenVoided};
 ghost use Rattle.channel_model.specs.Answers.{LookAnswer, WithdrawAnswer, CloseAnswer, VoidAnswer};
 ghost use Rattle.channel_model.specs.declared.floor.WaitState.TheVariants as state;
 ghost use Rattle.parcel_channel.specs.Seen.{SameTags};
 ghost use Rattle.parcel_channel.specs.Numbers.{HoldsWait};
 ghost use Rattle.parcel_channel.specs.Answers.{IsMove, IsOnly, PutAnswer, TakeAnswer};
-ghost use Rattle.parcel_channel.specs.Hubs.{IsOf, SamePass, seen_by, floor_by, IsLost, NumberSent};
-ghost use Rattle.parcel_channel.specs.Hubs.{SendAnswer, ReceiveAnswer, TryAnswer, SettleParcel, WakeParcel, DrainParcel};
+ghost use Rattle.parcel_channel.specs.Hubs.{IsOf, SamePass, seen_by, floor_by, IsLost, NumberSent, NumberTried};
+ghost use Rattle.parcel_channel.specs.Hubs.{SendAnswer, TrySendAnswer, ReceiveAnswer, TryAnswer, SettleParcel, WakeParcel, DrainParcel};
 
-use crate::answers::{ParcelGot, ParcelSent, ParcelSettled, ParcelTried};
+use crate::answers::{ParcelGot, ParcelOffered, ParcelSent, ParcelSettled, ParcelTried};
 use crate::hub::{ParcelHub, ParcelPass};
-use crate::numbers::{close, drain, look, void, wake_closed, withdraw};
+use crate::numbers::{close, drain, look, try_offer, void, wake_closed, withdraw};
 use crate::store::{put, take};
 use crate::waits::{
     Ended, Placed, Received, TriedReceived, end_wait, receive_next, send, try_receive_next,
 };
-use channel_model::{AlreadyClosed, WaitState, Withdrawn};
+use channel_model::{AlreadyClosed, TriedOffer, WaitState, Withdrawn};
 use co_base::{Tag, Value, WaitId};
 
 /// Draws a number and moves the value in with it; or gives it back, where no number is left.
@@ -84,6 +84,34 @@ fn send_number<T>(hub: &ParcelHub<T>, pass: &mut ParcelPass<T>, number: Value) -
     }
 }
 
+/// Offers a number whose value was moved in, as its sender has seen, unless it would have to wait.
+fn try_number<T>(hub: &ParcelHub<T>, pass: &mut ParcelPass<T>, number: Value) -> ParcelOffered<T>
+    requires of { IsOf hub.now pass.old }
+    requires number { number < hub.now.parcels }
+    requires moved { (x : T) × IsMove number x (seen_by pass.old).seen }
+    ensures of { IsOf hub.now pass.new }
+    ensures same { SamePass pass.old pass.new }
+    ensures answer { NumberTried pass.old.tag number (seen_by pass.old) (seen_by pass.new)
+        (floor_by hub.now pass.old) (floor_by hub.now pass.new) result }
+{
+    match try_offer(&hub.hub, &mut pass.pass, pass.tag, number) {
+        TriedOffer::Handed(_place, to) => ParcelOffered::Sent(Some(to)),
+        TriedOffer::Put(_place) => ParcelOffered::Sent(None),
+        TriedOffer::Full => match take_value(hub, pass, number) {
+            Some(value) => ParcelOffered::Full(value),
+            None => ParcelOffered::Lost,
+        },
+        TriedOffer::Closed(closed) => match take_value(hub, pass, number) {
+            Some(value) => ParcelOffered::Closed(value, closed),
+            None => ParcelOffered::Lost,
+        },
+        TriedOffer::Spent => match take_value(hub, pass, number) {
+            Some(value) => ParcelOffered::Spent(value),
+            None => ParcelOffered::Lost,
+        },
+    }
+}
+
 impl<T> ParcelHub<T> {
     /// Moves the value in, and sends its number; or waits. Where the channel is closed or has no place left, the value comes back.
     ///
@@ -98,6 +126,22 @@ impl<T> ParcelHub<T> {
         match put_value(self, pass, value) {
             Err(value) => ParcelSent::NoParcel(value),
             Ok(number) => send_number(self, pass, number),
+        }
+    }
+
+    /// Moves the value in, and sends its number, unless it would have to wait; then, and where the channel is closed or has no place left,
+    /// the value comes back. Each try draws a number, also one whose value comes back.
+    pub fn try_send(&self, pass: &mut ParcelPass<T>, value: T) -> ParcelOffered<T>
+        requires of { IsOf self.now pass.old }
+        ensures of { IsOf self.now pass.new }
+        ensures same { SamePass pass.old pass.new }
+        ensures answer { TrySendAnswer self.now.parcels pass.old.tag value (seen_by pass.old) (seen_by pass.new)
+            (floor_by self.now pass.old) (floor_by self.now pass.new) result }
+    {
+        let drawn = put_value(self, pass, value);
+        match drawn {
+            Err(back) => ParcelOffered::NoParcel(back),
+            Ok(number) => try_number(self, pass, number),
         }
     }
 
@@ -174,31 +218,29 @@ impl<T> ParcelHub<T> {
         }
     }
 
-    /// How far the own wait is.
+    /// How far the own wait is, which did not end.
     pub fn look(&self, pass: &mut ParcelPass<T>, wait: WaitId) -> WaitState
         requires of { IsOf self.now pass.old }
         requires wait { wait.channel ≡ 0 }
-        requires own { IsOwnWaitOf pass.old.tag wait (floor_by self.now pass.old) }
+        requires holds { HoldsWait pass.old.tag wait (floor_by self.now pass.old) }
         ensures of { IsOf self.now pass.new }
         ensures same { SamePass pass.old pass.new × (seen_by pass.new ≡ seen_by pass.old) }
         ensures answer { LookAnswer pass.old.tag wait (floor_by self.now pass.old) (floor_by self.now pass.new) result }
-        ensures holds { HoldsWait pass.old.tag wait (floor_by self.now pass.old)
-            → HoldsWait pass.old.tag wait (floor_by self.now pass.new) }
-        ensures ready { HoldsWait pass.old.tag wait (floor_by self.now pass.old) → result ≡ state.Resolved
-            → IsReady pass.old.tag wait (floor_by self.now pass.new) }
+        ensures holds { HoldsWait pass.new.tag wait (floor_by self.now pass.new) }
+        ensures ready { result ≡ state.Resolved → IsReady pass.new.tag wait (floor_by self.now pass.new) }
     {
         look(&self.hub, &mut pass.pass, pass.tag, wait)
     }
 
-    /// Takes the own wait back, unless it was resolved before.
+    /// Takes the own wait back, which did not end, unless it was resolved before. In both cases it may be settled then.
     pub fn withdraw(&self, pass: &mut ParcelPass<T>, wait: WaitId) -> Withdrawn
         requires of { IsOf self.now pass.old }
         requires wait { wait.channel ≡ 0 }
-        requires own { IsOwnWaitOf pass.old.tag wait (floor_by self.now pass.old) }
+        requires holds { HoldsWait pass.old.tag wait (floor_by self.now pass.old) }
         ensures of { IsOf self.now pass.new }
         ensures same { SamePass pass.old pass.new × (seen_by pass.new ≡ seen_by pass.old) }
         ensures answer { WithdrawAnswer pass.old.tag wait why.Cancelled (floor_by self.now pass.old) (floor_by self.now pass.new) result }
-        ensures ready { HoldsWait pass.old.tag wait (floor_by self.now pass.old) → IsReady pass.old.tag wait (floor_by self.now pass.new) }
+        ensures ready { IsReady pass.new.tag wait (floor_by self.now pass.new) }
     {
         withdraw(&self.hub, &mut pass.pass, pass.tag, wait)
     }

@@ -42,7 +42,7 @@ mod steps;
 mod store;
 mod waits;
 
-pub use answers::{ParcelGot, ParcelSent, ParcelSettled, ParcelTried};
+pub use answers::{ParcelGot, ParcelOffered, ParcelSent, ParcelSettled, ParcelTried};
 pub use hub::{ParcelHub, ParcelPass, ParcelTable};
 pub use laws::{each_number_is_moved_once, there_is_one_list_of_moves};
 pub use parcel::{ParcelAct, ParcelEntry};

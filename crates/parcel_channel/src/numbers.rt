@@ -1,8 +1,8 @@
 //! Calls on the channel that carries the numbers.
 ghost use Rattle.std.specs.Prelude.{◌≡◌, ◌^◌, ◌<◌, true};
 ghost use Rattle.std.specs.Int.Bits.{bit_or};
-ghost use Rattle.channel_model.specs.Answers.{OfferAnswer, GotAnswer, TriedGotAnswer, SettleAnswer, LookAnswer, WithdrawAnswer, CloseAnswer};
-ghost use Rattle.channel_model.specs.Answers.{WakeAnswer, VoidAnswer, DrainAnswer, IsOwn as IsOwnWaitOf, IsReady, IsSeenClosed};
+ghost use Rattle.channel_model.specs.Answers.{OfferAnswer, TriedOfferAnswer, GotAnswer, TriedGotAnswer, SettleAnswer, LookAnswer, WithdrawAnswer};
+ghost use Rattle.channel_model.specs.Answers.{CloseAnswer, WakeAnswer, VoidAnswer, DrainAnswer, IsOwn as IsOwnWaitOf, IsReady, IsSeenClosed};
 ghost use Rattle.channel_model.specs.Answers.{IsSeenVoided};
 ghost use Rattle.channel_model.specs.declared.acts.Why.TheVariants as why;
 ghost use Rattle.cell_words.specs.Hubs.{IsOwn, SameGiving};
@@ -13,7 +13,8 @@ ghost use Rattle.parcel_channel.specs.Numbers.{CarriesNumbers, AdmitsBelow, Admi
 use cell_calls::Desk;
 use cell_words::{Hub, Pass};
 use channel_model::{
-    AlreadyClosed, ChannelFloor, Got, Offered, Settled, TriedGot, WaitState, Why, Withdrawn,
+    AlreadyClosed, ChannelFloor, Got, Offered, Settled, TriedGot, TriedOffer, WaitState, Why,
+    Withdrawn,
 };
 use co_base::{Place, Tag, Value, WaitId};
 
@@ -38,6 +39,29 @@ pub(crate) fn offer(hub: &Hub, pass: &mut Pass, who: Tag, value: Value) -> Offer
 {
     let mut desk = Desk { hub, pass };
     offer_on(&mut desk, who, value)
+}
+
+fn try_offer_on(desk: &mut Desk<'_>, who: Tag, value: Value) -> TriedOffer
+    requires channel { CarriesNumbers desk.old.hub.now }
+    requires caller { (desk_floor desk.old).callers who ≡ true }
+    ensures anchor { desk_anchor desk.new ≡ desk_anchor desk.old }
+    ensures own { IsOwn desk.old.hub.now desk.new.pass.now who }
+    ensures giving { SameGiving desk.old.pass.now desk.new.pass.now }
+    ensures answer { TriedOfferAnswer who 0 value (desk_floor desk.old) (hub_floor desk.old.hub.now desk.new.pass.now) result }
+{
+    desk.try_offer(who, 0, value)
+}
+
+/// Offers the number, unless it would have to wait.
+pub(crate) fn try_offer(hub: &Hub, pass: &mut Pass, who: Tag, value: Value) -> TriedOffer
+    requires channel { CarriesNumbers hub.now }
+    requires own { IsOwn hub.now pass.old who }
+    ensures own { IsOwn hub.now pass.new who }
+    ensures giving { SameGiving pass.old pass.new }
+    ensures answer { TriedOfferAnswer who 0 value (hub_floor hub.now pass.old) (hub_floor hub.now pass.new) result }
+{
+    let mut desk = Desk { hub, pass };
+    try_offer_on(&mut desk, who, value)
 }
 
 fn receive_on(desk: &mut Desk<'_>, who: Tag) -> Got

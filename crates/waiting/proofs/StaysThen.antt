@@ -1,5 +1,6 @@
 -- A pass that does nothing but look.
 use Rattle.std.specs.Prelude.{◌≡◌, ℕ, Bool, false, refl}
+use Rattle.co_base.proofs.Orders.{order_same}
 use Rattle.std.proofs.Common.{subst, ◌∙◌, arith}
 use Rattle.co_base.specs.declared.names.WaitId.{WaitId}
 use Rattle.channel_model.specs.Floors.{Floor, Looked}
@@ -15,7 +16,7 @@ use Rattle.waiting.specs.Waits.{Stays, EndsAsleep}
 
 looked_self : (who : ℕ) (a : Floor) → Looked who a a
 looked_self who a = record {
-  same = record { shape = refl; alone = refl; callers = refl };
+  same = record { shape = refl; alone = refl; callers = refl; order = order_same _ };
   longer = prefix_self a.seen;
   mine = refl;
   alone = λ e. refl;

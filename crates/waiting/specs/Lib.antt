@@ -1,4 +1,5 @@
 pub mod Closes
+pub mod Jobs
 pub mod Once
 pub mod Sinks
 pub mod Stands

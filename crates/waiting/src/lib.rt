@@ -1,5 +1,5 @@
 //! Threads and tasks that wait on a channel of owned values: a send and a receive that sleep, and the channel as a stream and as a sink of
-//! the kit's futures.
+//! the kit's futures; and threads that wait for the end of a Job.
 //!
 //! A channel of owned values blocks nobody: who has to wait is told so, and each call names whom it set free. Here each tag has a bell
 //! (`Bells` of `ring_bridge`), which those who are named hear. Who waits reads how often its bell was rung, looks at its wait, and sleeps
@@ -17,10 +17,12 @@
 //! - `stops`: a wait is given up
 //! - `streams`, `receiving`: a channel as a stream
 //! - `sinks`, `sending`: a channel as a sink
+//! - `jobs`: to wait for the end of a Job, and to wake who waits
 #![tactic(auto)]
 
 mod calls;
 mod closing;
+mod jobs;
 mod receiving;
 mod resting;
 mod sending;
@@ -30,5 +32,6 @@ mod streams;
 
 pub use calls::{ReceiveFault, SendFault, receive, send};
 pub use closing::close;
+pub use jobs::{BellWakes, await_job};
 pub use sinks::ParcelSink;
 pub use streams::ParcelStream;

@@ -14,7 +14,7 @@ use std::hint::spin_loop;
 use std::sync::Wait;
 
 /// How often a wait is looked at before its thread sleeps.
-const LOOKS: u32 = 200;
+pub(crate) const LOOKS: u32 = 200;
 
 /// The bell of a tag: each tag below 63 has one of its own, and all others have the last.
 pub(crate) fn bell_of(tag: Tag) -> u32

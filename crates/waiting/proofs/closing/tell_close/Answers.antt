@@ -1,4 +1,5 @@
 use Rattle.std.specs.Prelude.{None, refl}
+use Rattle.co_base.proofs.Orders.{order_same}
 use Rattle.std.proofs.Common.{subst}
 use Rattle.cell_words.proofs.LooksAtCells.{hub_legal}
 use Rattle.parcel_channel.specs.Hubs.{floor_by, WakeParcel}
@@ -10,7 +11,7 @@ pub loop-tag-init : goal.loop-tag-init
 loop-tag-init g c = record {
   of = c.requires.of;
   same = ((refl, (refl, refl), refl), refl);
-  setting = record { shape = refl; alone = refl; callers = refl };
+  setting = record { shape = refl; alone = refl; callers = refl; order = order_same _ };
   closed = c.requires.closed;
   told = nobody (floor_by c.args.hub.now c.args.pass.now);
 }

@@ -1,7 +1,6 @@
 use Rattle.std.proofs.Common.{◌∙◌, sym, refl}
-use Rattle.future_bridge.proofs.StreamsGo.{on_pending}
 use Rattle.future_bridge.proofs.JobsGo.{Begun, done_kind, no_item, gives_end, gives_still, awaits_end, awaits_spent}
-use Rattle.future_bridge.proofs.jobs.JobFutureFuture.poll.Goals as goal
+use Rattle.future_bridge.proofs.jobs.JobFuture.step.Goals as goal
 
 pub unreachable-requires-in-Item : goal.unreachable-requires-in-Item
 unreachable-requires-in-Item c = no_item _ (done_kind c.args.self.now.state c.in-Some.taken (sym c.take.ensures.value
@@ -27,20 +26,17 @@ pub returns-in-Waits-clause-same : goal.returns-in-Waits-clause-same
 returns-in-Waits-clause-same c =
     let begun : Begun c.in-Some.taken c.start_first.new.pass =
     record { own = c.start_first.ensures.own; giving = c.start_first.ensures.giving; starts = c.start_first.ensures.starts } in
-    on_pending c.yield_now.result _
-    (gives_still c.args.self.now.state c.in-Some.taken c.step_on.new.pass c.start_first.new.pass c.in-Waits.place (sym c.take.ensures.value
-    ∙ c.in-Some.is) c.step_on.ensures.giving begun c.in-Waits.ensures.stepped)
+    gives_still c.args.self.now.state c.in-Some.taken c.step_on.new.pass c.start_first.new.pass c.in-Waits.place (sym c.take.ensures.value
+    ∙ c.in-Some.is) c.step_on.ensures.giving begun c.in-Waits.ensures.stepped
 
 pub returns-in-Waits-clause-waits : goal.returns-in-Waits-clause-waits
-returns-in-Waits-clause-waits c =
-    on_pending c.yield_now.result _
-    (record {
-      before = c.in-Some.taken;
-      after = _;
-      was = sym c.take.ensures.value ∙ c.in-Some.is;
-      is = refl;
-      place = c.in-Waits.place;
-      wait = refl;
-      waits = c.in-Waits.ensures.stepped.1;
-      by = c.in-Waits.ensures.stepped.2;
-    })
+returns-in-Waits-clause-waits c = record {
+  before = c.in-Some.taken;
+  after = _;
+  was = sym c.take.ensures.value ∙ c.in-Some.is;
+  is = refl;
+  place = c.in-Waits.place;
+  wait = refl;
+  waits = c.in-Waits.ensures.stepped.1;
+  by = c.in-Waits.ensures.stepped.2;
+}
