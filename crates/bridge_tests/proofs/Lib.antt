@@ -1,1 +1,3 @@
 pub mod ClosesSeen
+pub mod TagsEnded
+pub mod ThreeKept

@@ -1,0 +1,2 @@
+pub mod ParcelPasses
+pub mod RingPasses

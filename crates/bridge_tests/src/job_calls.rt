@@ -6,7 +6,7 @@ ghost use Rattle.job_words.specs.Rangers.{ranger_floor, ranger_anchor};
 ghost use Rattle.future_bridge.specs.Jobs.{jobs_seen};
 
 use co_base::{Row, Tag};
-use forest_shares::is_attached;
+use floor_tests::forest_shares::is_attached;
 use job_words::{Forest, JobPass, Ranger};
 
 fn sees_job_on(ranger: &mut Ranger<'_>, who: Tag, row: Row) -> bool

@@ -10,7 +10,7 @@ use cell_calls::{close, receive};
 use cell_words::{Hub, Pass};
 use channel_model::{Got, Kind};
 use co_base::{Memory, Value};
-use forest_shares::{Answer, Call, make_by, meet_both, new_forest, split_off};
+use floor_tests::forest_shares::{Answer, Call, make_by, meet_both, new_forest, split_off};
 use future_bridge::{Drive, HostDrive, JobFuture, Spent, await_job};
 use futures::Future;
 use futures::task::{Context, Poll};
@@ -23,17 +23,17 @@ use std::test::Fail;
 
 /// Two done channels of one place, two coroutines, and the passes of both.
 #[derive(Drop)]
-struct Family {
-    hub: Hub,
-    forest: Forest,
-    root: Pass,
-    root_jobs: JobPass,
-    child: Pass,
-    child_jobs: JobPass,
+pub(crate) struct Family {
+    pub hub: Hub,
+    pub forest: Forest,
+    pub root: Pass,
+    pub root_jobs: JobPass,
+    pub child: Pass,
+    pub child_jobs: JobPass,
 }
 
 /// The root, with the other tag not attached yet.
-fn new_family(alloc: Global) -> Result<Family, Memory>
+pub(crate) fn new_family(alloc: Global) -> Result<Family, Memory>
     ensures shape { IfOk result (λ f. shape_of f.hub ≡ (Signal, 1) ∷ (Signal, 1) ∷ []) }
     ensures size { IfOk result (λ f. f.forest.size.coroutines ≡ 2) }
     ensures root { IfOk result (λ f. IsOwn f.hub f.root 0) }
@@ -56,7 +56,7 @@ fn new_family(alloc: Global) -> Result<Family, Memory>
 }
 
 /// The root attaches the other coroutine, whose body then ends with 9: both answers.
-fn attach_and_end(
+pub(crate) fn attach_and_end(
     alloc: Global,
     forest: &Forest,
     root: &mut JobPass,
@@ -92,7 +92,7 @@ fn attach_and_end(
 }
 
 /// What both calls answer if the tag was free and no child lives.
-const ATTACHED_AND_ENDED: (Answer, Answer) = (
+pub(crate) const ATTACHED_AND_ENDED: (Answer, Answer) = (
     Answer::Attached(Ok(Attached {
         row: 1,
         cancelled: false,

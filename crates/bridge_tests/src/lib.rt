@@ -1,4 +1,5 @@
-//! What streams, sinks and futures of Jobs give, worked out by hand, and what two of them come to on one thread and on two.
+//! What streams, sinks and futures of Jobs give, worked out by hand, and what two of them come to on one thread and on two; and tests of
+//! channels of owned values and of rings.
 //!
 //! - `pass_calls`: offers, receives and closes of one pass
 //! - `streams`: what streams give
@@ -7,8 +8,14 @@
 //! - `jobs`: what futures of Jobs give
 //! - `together`: a sender and a receiver under one drive
 //! - `at_once`: a sender and a receiver by a thread each
+//! - `asleep`: a thread that sleeps until a Job has ended
+//! - `permits_wake`: whom a release of a permit wakes
+//! - `parcels`: channels of owned values
+//! - `rings`: rings
 #![tactic(auto)]
 
+#[cfg(test)]
+mod asleep;
 #[cfg(test)]
 mod at_once;
 #[cfg(test)]
@@ -17,8 +24,12 @@ mod job_calls;
 mod jobs;
 #[cfg(test)]
 mod lists;
+mod parcels;
 #[cfg(test)]
 mod pass_calls;
+#[cfg(test)]
+mod permits_wake;
+mod rings;
 #[cfg(test)]
 mod streams;
 #[cfg(test)]

@@ -7,6 +7,8 @@
 //! - `print_tests`: a script that is read and printed again.
 //! - `worker_tests`: runs by several workers.
 //! - `gate_tests`: the points of the gate that polls pass.
+//! - `text_tests`: whole texts read and written through the sources and sinks of `co_base`.
+//! - `reports`: reports of books that no script leaves.
 //! - `hold_gate`, `hold_tests`: a gate that holds coroutines, and runs by several workers under schedules that it brings about.
 #![tactic(auto)]
 
@@ -34,6 +36,7 @@ mod hold_tests;
 mod job_rows;
 #[cfg(test)]
 mod print_tests;
+mod reports;
 #[cfg(test)]
 mod scope_rows;
 #[cfg(test)]
@@ -42,6 +45,8 @@ mod select_rows;
 mod stream_tests;
 #[cfg(test)]
 mod tests;
+#[cfg(test)]
+mod text_tests;
 #[cfg(test)]
 mod word_rows;
 #[cfg(test)]

@@ -4,7 +4,7 @@ ghost use Rattle.std.specs.Prelude.{◌≡◌};
 ghost use Rattle.cell_words.specs.Hubs.{shape_of, IsOwn};
 ghost use Rattle.floor_tests.specs.Meetings.{two_channels};
 
-use crate::tests::{Found, USER, new_hub, select_on};
+use crate::select_tests::{Found, USER, new_hub, select_on};
 use cell_calls::Desk;
 use cell_words::{Hub, Pass};
 use channel_model::{ChannelFloor, Offered};

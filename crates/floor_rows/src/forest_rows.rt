@@ -1,18 +1,21 @@
 //! What calls on a forest answer, and what several threads make of one.
 ghost use Rattle.std.specs.Prelude.{◌≡◌, ◌≤◌, ◌+◌, true, is_some, IfOk, ⊤};
 ghost use Rattle.job_model.specs.Histories.{replay};
+ghost use Rattle.job_model.specs.Floors.{MayCall};
 ghost use Rattle.job_words.specs.Passes.{floor_seen};
 ghost use Rattle.job_words.specs.Forests.{seen_by, IsOwn};
 ghost use Rattle.job_words.specs.Rangers.{ranger_floor, ranger_anchor};
 ghost use Rattle.one_thread_floor.specs.TreeFloors.{floor_of};
 
 use co_base::{Memory, Row, Tag, Value, Wakes};
-use forest_calls::finish_up;
-use forest_shares::{
+use floor_tests::forest_shares::{
     Answer, Call, Four, NoWakes, Share, Work, cancel_root, is_attached, make, make_by, meet_both,
     new_forest, run, share_of, split_off, work_by,
 };
-use job_model::{AttachError, Attached, CancelledNow, Cause, End, Ended, Finished, JobKind};
+use forest_calls::finish_up;
+use job_model::{
+    AttachError, Attached, CancelledNow, Cause, End, Ended, Finished, JobFloor, JobKind,
+};
 use job_tree::Ends;
 use job_words::{Forest, JobPass, Ranger};
 use note_book::{NoteBook, Notes};
@@ -248,23 +251,27 @@ struct LastEnd {
     last: Option<(Row, End)>,
 }
 
-impl<B: NoteBook, W: Wakes> Ends<B, W> for LastEnd {
+impl<F: JobFloor, B: NoteBook, W: Wakes> Ends<F, B, W> for LastEnd {
     ghost most = { λ e. 0 };
 
     ghost is_ready = { λ e. true };
 
     ghost prepares = { λ old new. ⊤ };
 
-    ghost does = { λ old row end items new. ⊤ };
+    ghost does = { λ old before row end items new after. ⊤ };
+
+    ghost leaves = { λ old new jobs. ⊤ };
 
     fn ready(&mut self, book: &mut B, more: u32) -> Result<(), Memory> {
         book.room(more)
     }
 
-    fn ended(&mut self, _book: &mut B, _wakes: &mut W, row: Row, end: End) {
+    fn ended(&mut self, _jobs: &mut F, _book: &mut B, _wakes: &mut W, row: Row, end: End) {
         self.count = self.count.saturating_add(1);
         self.last = Some((row, end));
     }
+
+    fn left(&mut self, _jobs: &mut F) {}
 }
 
 /// Whether the row is attached, on the floor of one pass.
@@ -287,6 +294,23 @@ fn is_attached_by(forest: &Forest, pass: &mut JobPass, who: Tag, row: Row) -> bo
     is_attached_on(&mut ranger, who, row)
 }
 
+/// Ends the Job and its parents, on the floor of one pass.
+fn finish_on(ranger: &mut Ranger<'_>, alloc: Global, who: Tag, row: Row) -> Result<LastEnd, Memory>
+    requires can { MayCall who row (ranger_floor ranger.old) }
+    ensures anchor { ranger_anchor ranger.new ≡ ranger_anchor ranger.old }
+    ensures own { IsOwn ranger.old.forest.now ranger.new.pass.now who }
+{
+    let mut ends = LastEnd {
+        count: 0,
+        last: None,
+    };
+    let mut book = Notes::new(alloc);
+    match finish_up(ranger, &mut book, &mut NoWakes, who, row, &mut ends) {
+        Ok(()) => Ok(ends),
+        Err(memory) => Err(memory),
+    }
+}
+
 /// Ends the Job and its parents, as far as they may end.
 fn finish_from(
     forest: &Forest,
@@ -298,18 +322,14 @@ fn finish_from(
     requires own { IsOwn forest.now pass.old who }
     ensures own { IsOwn forest.now pass.new who }
 {
-    let mut ends = LastEnd {
-        count: 0,
-        last: None,
-    };
     if !is_attached_by(forest, pass, who, row) {
-        return Ok(ends);
+        return Ok(LastEnd {
+            count: 0,
+            last: None,
+        });
     }
-    let mut book = Notes::new(alloc);
-    match finish_up(forest, pass, &mut book, &mut NoWakes, who, row, &mut ends) {
-        Ok(()) => Ok(ends),
-        Err(memory) => Err(memory),
-    }
+    let mut ranger = Ranger { forest, pass };
+    finish_on(&mut ranger, alloc, who, row)
 }
 
 /// A chain of two coroutines whose bodies have ended.

@@ -1,7 +1,8 @@
-//! Tests of what coroutines and workers share: floors of channels, permits over them, floors of Jobs, seats and berths.
+//! Tests of what coroutines and workers share: floors of channels, permits over them, floors of Jobs, seats and berths, lanes and crews,
+//! counted cells and gates.
 //!
 //! - `rows`: calls on one channel and their answers, on a floor of lists and over words.
-//! - `tests`: a select of two receives, while another coroutine calls in between: on lists, and over words.
+//! - `select_tests`: a select of two receives, while another coroutine calls in between: on lists, and over words.
 //! - `at_once`: such a select, and the other's calls by a thread of its own.
 //! - `on_passes`: offers and receives by four threads, each with a pass.
 //! - `selects_on_passes`: waits of several clauses, each call made by a pass.
@@ -9,14 +10,19 @@
 //! - `seat_tests`: two callers with a seat each at a hub, and at a forest.
 //! - `berth_tests`: tasks that two seats take and leave.
 //! - `permit_rows`: calls of three coroutines on one permit, and who holds a permit while four threads ask for them.
+//! - `lists`: calls on one channel of a floor of lists.
+//! - `words`: what threads share over words, without a lock.
+//! - `crews`: lanes of tickets, and crews of workers over them.
 #![tactic(auto)]
 
 #[cfg(test)]
 mod at_once;
 #[cfg(test)]
 mod berth_tests;
+mod crews;
 #[cfg(test)]
 mod forest_rows;
+mod lists;
 #[cfg(test)]
 mod on_passes;
 #[cfg(test)]
@@ -26,6 +32,7 @@ mod rows;
 #[cfg(test)]
 mod seat_tests;
 #[cfg(test)]
-mod selects_on_passes;
+mod select_tests;
 #[cfg(test)]
-mod tests;
+mod selects_on_passes;
+mod words;

@@ -1,7 +1,7 @@
 //! Calls of three coroutines on one permit, worked out by hand; and who holds a permit at once.
 
 use co_base::{Tag, WaitId};
-use permit_calls::{Call, right_on_list, right_on_passes, tally_of_four};
+use floor_tests::permit_calls::{Call, right_on_list, right_on_passes, tally_of_four};
 use permits::{Acquired, GivenBack, Permits, Released, TryAcquired};
 use std::test::Fail;
 

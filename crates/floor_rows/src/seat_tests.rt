@@ -19,7 +19,7 @@ use std::marker::{Brand, PhantomData};
 use std::sync::Wait;
 use std::test::Fail;
 use std::thread::{Threads, join};
-use word_seats::{ForestName, ForestSeat, HubName, HubSeat};
+use word_seats::{ForestSeat, HubSeat, TableName};
 
 /// Tag 1 offers.
 fn offer<C: SharedChannels + Drop>(mut seat: C) -> Result<(C, Offered), Memory>
@@ -61,12 +61,12 @@ fn transfer<C: SharedChannels + Drop + Send, R: Threads + Wait + Sync>(
 }
 
 /// A transfer over two seats of the hub that `N` names.
-fn on_a_hub<N: HubName + Send + Sync, R: Threads + Wait + Sync>(
+fn on_a_hub<N: TableName + Send + Sync, R: Threads + Wait + Sync>(
     rt: &R,
     hub: &Hub,
     pass: Pass,
 ) -> Result<(Offered, Got), Memory>
-    requires named { IsNamedHub N.hub_table N.hub_key hub.now }
+    requires named { IsNamedHub N.table N.table_key hub.now }
     requires own { IsOwn hub.now pass 0 }
     requires gives { GivesTags (0 ∷ []) pass }
     requires channel { 0 < length (shape_of hub.now) }
@@ -124,8 +124,8 @@ fn child_seen<J: SharedJobs + Drop>(main: &mut J, child: J) -> Result<Option<Job
 }
 
 /// The same over seats of the forest that `N` names.
-fn on_a_forest<N: ForestName>(forest: &Forest, pass: JobPass) -> Result<Option<JobView>, Memory>
-    requires named { IsNamedForest N.forest_table N.forest_key forest.now }
+fn on_a_forest<N: TableName>(forest: &Forest, pass: JobPass) -> Result<Option<JobView>, Memory>
+    requires named { IsNamedForest N.table N.table_key forest.now }
     requires own { IsOwnJobs forest.now pass 0 }
     requires gives { GivesJobTags (0 ∷ []) pass }
     requires fresh { IsFreshFloor (record { coroutines = 2; rows = 2 }) (floor_seen (jobs_seen_by pass)) }

@@ -1,5 +1,6 @@
 -- What a call of the other is to the user: the floor was looked at, and others made entries.
 use Rattle.std.specs.Prelude.{◌≡◌, ◌≢◌, ℕ, ◌+◌, ◌==◌, ◌&&◌, not, Bool, true, false, List, [], ◌∷◌, ◌++◌, length, Result, Ok, Err, refl, if◌then◌else◌}
+use Rattle.co_base.proofs.Orders.{order_same}
 use Rattle.std.proofs.Common.{sym, ap, ◌∙◌, subst, arith}
 use Rattle.std.proofs.lemmas.Bool.Decides.{nat_tests}
 use Rattle.channel_model.specs.declared.acts.Act.{Act}
@@ -36,6 +37,7 @@ between_settings m n a f s = record {
   alone = refl;
   callers =
       ap (λ (h : ℕ → Bool). λ t. h t && not (t == other)) s.callers;
+  order = s.order;
 }
 
 module _ (who : ℕ) (apart : who ≢ other) (m n : ℕ) (more : m ≡ n + 1) (a f : Floor) (alone : a.alone ≡ true) where
@@ -80,7 +82,7 @@ module _ (who : ℕ) (apart : who ≢ other) (m n : ℕ) (more : m ≡ n + 1) (a
 
   call_looked : (call : OtherCall) → CallAnswer call a f → Looked who (seen_between m a) (seen_between n f)
   call_looked Nothing h = subst (λ g. Looked who (seen_between m a) (seen_between n g)) (sym h) (record {
-    same = record { shape = refl; alone = refl; callers = refl };
+    same = record { shape = refl; alone = refl; callers = refl; order = order_same _ };
     longer = prefix_self a.seen;
     mine = refl;
     alone = λ e. refl;
@@ -92,7 +94,7 @@ module _ (who : ℕ) (apart : who ≢ other) (m n : ℕ) (more : m ≡ n + 1) (a
 
 still : (who n : ℕ) (a : Floor) → Looked who (seen_between n a) (seen_between n a)
 still who n a = record {
-  same = record { shape = refl; alone = refl; callers = refl };
+  same = record { shape = refl; alone = refl; callers = refl; order = order_same _ };
   longer = prefix_self a.seen;
   mine = refl;
   alone = λ e. refl;

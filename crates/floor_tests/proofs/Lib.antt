@@ -1,6 +1,12 @@
-mod JoinsLater
-mod EndsLater
+mod CallsAdd
 mod CallsOfOther
-mod SeenBetween
-pub mod WaitsBegun
+mod EndsLater
+mod JoinsLater
+mod KnownAfterCalls
+pub mod KnownAtFirst
 pub mod KnownLater
+pub mod LooksBeforeCalls
+mod ReadyWaits
+mod SeenBetween
+pub mod TagsGivenOut
+pub mod WaitsBegun

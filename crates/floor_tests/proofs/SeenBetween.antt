@@ -1,5 +1,6 @@
 -- What a call comes to that is made on the floor below, behind a call of the other.
 use Rattle.std.specs.Prelude.{◌≡◌, ℕ, ◌==◌, ◌&&◌, not, Bool, true, false, List, [], ◌++◌, Option, Some, None, Result, Ok, Err, refl}
+use Rattle.co_base.proofs.Orders.{order_then}
 use Rattle.std.proofs.Common.{ap, ◌∙◌, subst, arith}
 use Rattle.co_base.specs.declared.names.WaitId.{WaitId}
 use Rattle.channel_model.specs.declared.acts.Act.{Act}
@@ -57,6 +58,7 @@ module _ (who m n : ℕ) (a f g : Floor) (k : IsLookTo who m n a f) where
     shape = s.shape ∙ k.look.same.shape;
     alone = refl;
     callers = ap (λ (h : ℕ → Bool). λ t. h t && not (t == other)) s.callers ∙ k.look.same.callers;
+    order = order_then _ _ _ k.look.same.order s.order;
   }
 
   pub looked_behind : Looked who f g → Looked who (seen_between m a) (seen_between n g)

@@ -1,2 +1,5 @@
-pub mod Meetings
+pub mod AllThree
 pub mod Known
+pub mod KnownPermits
+pub mod Meetings
+pub mod Shares

@@ -23,6 +23,7 @@ seen_between n floor = record {
   spare = floor.spare - n;
   alone = false;
   callers = λ t. floor.callers t && not (t == other);
+  order = floor.order;
 }
 
 -- the other may call so on channels of this shape

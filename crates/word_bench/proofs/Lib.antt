@@ -1,2 +1,4 @@
 mod CallersGoOn
+pub mod PassesKept
+pub mod TagsEnded
 mod WaitsBegun

@@ -1,0 +1,14 @@
+//! Tests of what threads share over words, without a lock.
+//!
+//! - `counted_rows`, `counted_at_once`: counted cells, call by call, and by four threads.
+//! - `gate_rows`: a gate, call by call.
+//! - `latest_at_once`: a channel that does not keep its latest, call by call, and by two threads.
+
+#[cfg(test)]
+mod counted_at_once;
+#[cfg(test)]
+mod counted_rows;
+#[cfg(test)]
+mod gate_rows;
+#[cfg(test)]
+mod latest_at_once;

@@ -1,0 +1,78 @@
+-- What a coroutine knows of its use of the permits of a channel, before and after a call.
+use Rattle.std.specs.Prelude.{◌≡◌, ◌≤◌, ℕ, true, false, List, Option, Some, None, Result, Ok, Err}
+use Rattle.co_base.specs.declared.names.WaitId.{WaitId}
+use Rattle.co_base.specs.declared.names.Memory.{Memory}
+use Rattle.channel_model.specs.declared.acts.Act.{Act}
+use Rattle.channel_model.specs.Histories.{replay}
+use Rattle.channel_model.specs.Floors.{Floor, Added}
+use Rattle.channel_model.specs.Answers.{IsUnsettledOf}
+use Rattle.cell_words.specs.declared.hub.Hub.{Hub}
+use Rattle.cell_words.specs.Hubs.{IsOf}
+use Rattle.cell_calls.specs.HubFloors.{hub_floor}
+use Rattle.permits.specs.declared.permits.Acquired.{Acquired}
+use Rattle.permits.specs.declared.permits.Acquired.TheVariants as acquired
+use Rattle.permits.specs.Parts.{UsesPermits, MayFill}
+use Rattle.floor_tests.specs.declared.permit_calls.known_calls.Known.{Known}
+use Rattle.floor_tests.specs.declared.permit_calls.at_once.Four.{Four}
+
+-- the wait was seen, is who's, and did not end
+abbrev pub HoldsWait : ℕ → WaitId → Floor → Type 0
+HoldsWait who w f = IsUnsettledOf who ((replay f.seen).waits w)
+
+-- the wait, if there is one, is who's, on the channel, and did not end
+abbrev pub IsOwnWait : ℕ → ℕ → Option WaitId → Floor → Type 0
+IsOwnWait c who None f = Unit {0}
+IsOwnWait c who (Some w) f = (w.channel ≡ c) × HoldsWait who w f
+
+-- who uses the n permits, and holds so many of them; it has not called yet; its wait did not end
+pub record Knows (c n who : ℕ) (k : Known) (f : Floor) : Type 0 where
+  pub uses : UsesPermits c n who k.held f
+  pub fresh : k.fresh ≡ true → MayFill c n who f
+  pub wait : IsOwnWait c who k.wait f
+
+-- what is known after a call that answered as it was to
+abbrev pub KnowsThen : ℕ → ℕ → ℕ → Result (Option Known) Memory → Floor → Type 0
+KnowsThen c n who (Ok (Some k)) f = Knows c n who k f
+KnowsThen c n who (Ok None) f = Unit {0}
+KnowsThen c n who (Err m) f = Unit {0}
+
+-- a wait was taken up, and so many permits are held then; or it did not end
+abbrev pub EndsOrWaits : ℕ → ℕ → ℕ → ℕ → WaitId → Result (Option (Acquired × ℕ)) Memory → Floor → Type 0
+EndsOrWaits c n who held w (Ok (Some r)) f = UsesPermits c n who r.1 f
+EndsOrWaits c n who held w (Ok None) f = UsesPermits c n who held f × HoldsWait who w f
+EndsOrWaits c n who held w (Err m) f = Unit {0}
+
+-- who added some acts
+pub record Adds (who : ℕ) (old new : Floor) : Type 0 where
+  pub acts : List Act
+  pub added : Added who acts old new
+
+-- so many are held, and no wait is known
+abbrev pub used : ℕ → Known
+used held = record { fresh = false; held = held; wait = None }
+
+-- the call began this wait, or none
+abbrev pub after_acquire : ℕ → Acquired → Known
+after_acquire held (acquired.Waits w) = record { fresh = false; held = held; wait = Some w }
+after_acquire held other = used held
+
+-- nothing was called yet
+abbrev pub fresh : Known
+fresh = record { fresh = true; held = 0; wait = None }
+
+-- ---- four with a pass each, with the tags 1 to 4, on the permits of the first channel
+
+-- a semaphore may have so many permits
+pub record IsNumber (n : ℕ) : Type 0 where
+  pub some : 1 ≤ n
+  pub few : n ≤ 65535
+
+pub record FourUse (n : ℕ) (hub : Hub) (p : Four) : Type 0 where
+  pub of_a : IsOf hub p.a
+  pub of_b : IsOf hub p.b
+  pub of_c : IsOf hub p.c
+  pub of_d : IsOf hub p.d
+  pub a : UsesPermits 0 n 1 0 (hub_floor hub p.a)
+  pub b : UsesPermits 0 n 2 0 (hub_floor hub p.b)
+  pub c : UsesPermits 0 n 3 0 (hub_floor hub p.c)
+  pub d : UsesPermits 0 n 4 0 (hub_floor hub p.d)

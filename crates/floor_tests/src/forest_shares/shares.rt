@@ -1,0 +1,232 @@
+//! The tags of a forest, shared out among four passes.
+ghost use Rattle.std.specs.Prelude.{◌≡◌, ◌+◌, ◌<◌};
+ghost use Rattle.job_model.specs.Floors.{SameSetting};
+ghost use Rattle.job_words.specs.Passes.{floor_seen};
+ghost use Rattle.job_words.specs.Forests.{seen_by, IsOwn};
+ghost use Rattle.floor_tests.specs.Shares.{OwnsAll, IsShare, GivesFrom};
+
+use crate::forest_shares::calls::{Answer, Call};
+use crate::forest_shares::on_passes::{cancel_root, make_by, split_off};
+use co_base::Tag;
+use job_model::JobKind;
+use job_words::{Forest, JobPass};
+use std::alloc::Global;
+
+/// The tags from `from` to before `to`, and the pass under which they call.
+#[derive(Drop)]
+pub struct Share {
+    pub pass: JobPass,
+    pub from: Tag,
+    pub to: Tag,
+    /// How many calls came to what they are made for.
+    pub count: u32,
+}
+
+/// What is done with each tag of a share.
+#[derive(Clone, Copy, Debug)]
+pub enum Work {
+    /// Its Job is attached to the root.
+    Attach,
+    /// Its Job is attached to that of half its tag.
+    AttachBelow,
+    /// The body of its Job is ended.
+    EndBody,
+    /// Its Job is finished, and the root is told.
+    Finish,
+    /// The root is cancelled, once for all tags of the share.
+    CancelRoot,
+    /// Its coroutine enters scopes in the root, until no row for one is free. Only the first tag of the share does.
+    EnterScopes,
+}
+
+const SCOPE: JobKind = JobKind {
+    supervisor: false,
+    scoped: true,
+    lazy: false,
+};
+
+const PLAIN: JobKind = JobKind {
+    supervisor: false,
+    scoped: false,
+    lazy: false,
+};
+
+/// A pass of these tags, which were not given out.
+pub fn share_of(forest: &Forest, main: &mut JobPass, from: Tag, to: Tag) -> Share
+    requires some { from < to }
+    requires own { IsOwn forest.now main.old 0 }
+    requires gives { GivesFrom forest.now main.old from }
+    ensures own { IsOwn forest.now main.new 0 }
+    ensures gives { GivesFrom forest.now main.new to }
+    ensures share { IsShare forest.now result }
+{
+    let mut pass = split_off(forest, main, from);
+    for tag in from + 1..to {
+        let one = split_off(forest, main, tag);
+        forest.end(&mut pass, one);
+    }
+    Share {
+        pass,
+        from,
+        to,
+        count: 0,
+    }
+}
+
+/// The call of one tag, and whether it came to what it is made for.
+fn work_on(
+    forest: &Forest,
+    coroutines: u16,
+    pass: &mut JobPass,
+    alloc: Global,
+    tag: Tag,
+    work: Work,
+) -> bool
+    requires own { IsOwn forest.now pass.old tag }
+    requires size { forest.now.size.coroutines ≡ coroutines }
+    ensures own { IsOwn forest.now pass.new tag }
+    ensures same { SameSetting (floor_seen (seen_by pass.old)) (floor_seen (seen_by pass.new)) }
+{
+    let call = match work {
+        Work::CancelRoot => Call::Look { row: tag },
+        Work::AttachBelow => Call::Attach {
+            parent: tag / 2,
+            kind: PLAIN,
+            tag,
+        },
+        Work::Attach => Call::Attach {
+            parent: 0,
+            kind: PLAIN,
+            tag,
+        },
+        Work::EnterScopes => Call::Attach {
+            parent: 0,
+            kind: SCOPE,
+            tag,
+        },
+        Work::EndBody => Call::EndBody { row: tag, value: 1 },
+        Work::Finish => Call::FinishAndTell { row: tag },
+    };
+    match make_by(forest, coroutines, pass, alloc, tag, call) {
+        Ok(Answer::Attached(Ok(_))) | Ok(Answer::Ended(_)) | Ok(Answer::FinishedAndTold(_, _)) => {
+            true
+        }
+        _ => false,
+    }
+}
+
+/// The work on each tag of the share.
+fn work_through(forest: &Forest, coroutines: u16, alloc: Global, share: Share, work: Work) -> Share
+    requires size { forest.now.size.coroutines ≡ coroutines }
+    requires owns { OwnsAll forest.now share.pass share.from share.to }
+    ensures from { result.from ≡ share.from }
+    ensures to { result.to ≡ share.to }
+    ensures owns { OwnsAll forest.now result.pass result.from result.to }
+{
+    let Share {
+        mut pass,
+        from,
+        to,
+        count: _,
+    } = share;
+    let mut count = 0u32;
+    for tag in from..to {
+        if work_on(forest, coroutines, &mut pass, alloc, tag, work) {
+            count = count.saturating_add(1);
+        }
+    }
+    Share {
+        pass,
+        from,
+        to,
+        count,
+    }
+}
+
+/// The work of a share.
+pub fn run(forest: &Forest, coroutines: u16, alloc: Global, share: Share, work: Work) -> Share
+    requires some { share.from < share.to }
+    requires size { forest.now.size.coroutines ≡ coroutines }
+    requires owns { OwnsAll forest.now share.pass share.from share.to }
+    ensures from { result.from ≡ share.from }
+    ensures to { result.to ≡ share.to }
+    ensures owns { OwnsAll forest.now result.pass result.from result.to }
+{
+    match work {
+        Work::CancelRoot => cancel_in(forest, alloc, share),
+        Work::EnterScopes => enter_in(forest, coroutines, alloc, share),
+        Work::Attach | Work::AttachBelow | Work::EndBody | Work::Finish => {
+            work_through(forest, coroutines, alloc, share, work)
+        }
+    }
+}
+
+/// Cancels the root and all below it.
+fn cancel_in(forest: &Forest, alloc: Global, share: Share) -> Share
+    requires some { share.from < share.to }
+    requires owns { OwnsAll forest.now share.pass share.from share.to }
+    ensures from { result.from ≡ share.from }
+    ensures to { result.to ≡ share.to }
+    ensures owns { OwnsAll forest.now result.pass result.from result.to }
+{
+    let Share {
+        mut pass,
+        from,
+        to,
+        count: _,
+    } = share;
+    let count = cancel_root(forest, &mut pass, alloc, from).unwrap_or(0);
+    Share {
+        pass,
+        from,
+        to,
+        count,
+    }
+}
+
+/// Enters a scope in the root, if a row for one is free.
+fn enter(
+    forest: &Forest,
+    coroutines: u16,
+    pass: &mut JobPass,
+    alloc: Global,
+    from: Tag,
+    to: Tag,
+) -> bool
+    requires some { from < to }
+    requires size { forest.now.size.coroutines ≡ coroutines }
+    requires owns { OwnsAll forest.now pass.old from to }
+    ensures owns { OwnsAll forest.now pass.new from to }
+{
+    work_on(forest, coroutines, pass, alloc, from, Work::EnterScopes)
+}
+
+/// Enters scopes in the root, until no row for one is free.
+fn enter_in(forest: &Forest, coroutines: u16, alloc: Global, share: Share) -> Share
+    requires some { share.from < share.to }
+    requires size { forest.now.size.coroutines ≡ coroutines }
+    requires owns { OwnsAll forest.now share.pass share.from share.to }
+    ensures from { result.from ≡ share.from }
+    ensures to { result.to ≡ share.to }
+    ensures owns { OwnsAll forest.now result.pass result.from result.to }
+{
+    let Share {
+        mut pass,
+        from,
+        to,
+        count: _,
+    } = share;
+    let mut count = 0u32;
+    for _ in 0..16000 {
+        if !enter(forest, coroutines, &mut pass, alloc, from, to) {
+            break;
+        }
+        count = count.saturating_add(1);
+    }
+    Share {
+        pass,
+        from,
+        to,
+        count,
+    }
+}

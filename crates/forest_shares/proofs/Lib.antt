@@ -1,2 +1,0 @@
-pub mod LooksBeforeCalls
-pub mod TagsGivenOut

@@ -1,6 +1,0 @@
-use Rattle.forest_shares.proofs.TagsGivenOut.{owns_still}
-use Rattle.forest_shares.proofs.shares.cancel_in.Goals as goal
-
-pub returns-clause-owns : goal.returns-clause-owns
-returns-clause-owns c = owns_still c.args.forest.now c.args.share.pass c.cancel_root.new.pass c.args.share.from c.args.share.to
-    c.args.share.from c.requires.owns c.cancel_root.ensures.own c.cancel_root.ensures.same

@@ -1,9 +1,0 @@
-use Rattle.std.proofs.Common.{◌≤◌}
-use Rattle.forest_shares.specs.Shares.{OwnsAll}
-use Rattle.forest_shares.proofs.shares.work_through.Given as goal
-
-abbrev pub invariant-loop-tag : goal.invariant-loop-tag
-invariant-loop-tag l = record {
-  owns : OwnsAll l.forest l.pass l.from l.to;
-  from : l.from ≤ l.tag;
-}

@@ -1,2 +1,0 @@
-pub mod PassesKept
-pub mod TagsEnded

@@ -1,5 +1,0 @@
-use Rattle.parcel_bench.specs.Passes.{Keeps}
-use Rattle.parcel_bench.proofs.boxes.work.Given as goal
-
-abbrev pub invariant-loop-i : goal.invariant-loop-i
-invariant-loop-i l = Keeps l.hub l.initial.pass l.pass

@@ -1,5 +1,0 @@
-use Rattle.parcel_bench.specs.Rings.{IsPass}
-use Rattle.parcel_bench.proofs.rings.work.Given as goal
-
-abbrev pub invariant-loop-i : goal.invariant-loop-i
-invariant-loop-i l = IsPass l.ring l.tag l.pass

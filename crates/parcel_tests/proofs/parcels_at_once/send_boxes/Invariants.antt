@@ -1,5 +1,0 @@
-use Rattle.parcel_tests.specs.ParcelPasses.{Keeps}
-use Rattle.parcel_tests.proofs.parcels_at_once.send_boxes.Given as goal
-
-abbrev pub invariant-loop-number : goal.invariant-loop-number
-invariant-loop-number l = Keeps l.hub l.initial.pass l.pass

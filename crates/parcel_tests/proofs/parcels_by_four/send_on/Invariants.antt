@@ -1,5 +1,0 @@
-use Rattle.parcel_tests.specs.ParcelPasses.{Keeps}
-use Rattle.parcel_tests.proofs.parcels_by_four.send_on.Given as goal
-
-abbrev pub invariant-loop-value : goal.invariant-loop-value
-invariant-loop-value l = Keeps l.hub l.initial.pass l.pass

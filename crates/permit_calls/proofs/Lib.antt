@@ -1,4 +1,0 @@
-mod CallsAdd
-mod ReadyWaits
-mod KnownAfterCalls
-mod KnownAtFirst

@@ -1,5 +1,0 @@
-use Rattle.permit_calls.proofs.KnownAtFirst.{list_fresh}
-use Rattle.permit_calls.proofs.three_callers.new_floor.Goals as goal
-
-pub returns-clause-fresh : goal.returns-clause-fresh
-returns-clause-fresh c = list_fresh c.new.result c.new.ensures.shape c.new.ensures.seen c.new.ensures.callers

@@ -1,7 +1,0 @@
-//! Reports of books that no script leaves, line by line, and the line of tallies that no run kept.
-#![tactic(auto)]
-
-#[cfg(test)]
-mod tallies;
-#[cfg(test)]
-mod tests;

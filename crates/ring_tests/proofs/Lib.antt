@@ -1,2 +1,0 @@
-pub mod TagsEnded
-pub mod ThreeKept

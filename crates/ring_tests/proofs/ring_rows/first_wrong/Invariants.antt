@@ -1,5 +1,0 @@
-use Rattle.ring_tests.specs.RingPasses.{Keeps}
-use Rattle.ring_tests.proofs.ring_rows.first_wrong.Given as goal
-
-abbrev pub invariant-loop-call : goal.invariant-loop-call
-invariant-loop-call l = Keeps l.ring l.initial.pass l.pass

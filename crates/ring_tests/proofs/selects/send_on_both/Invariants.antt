@@ -1,5 +1,0 @@
-use Rattle.ring_tests.specs.RingPasses.{Keeps}
-use Rattle.ring_tests.proofs.selects.send_on_both.Given as goal
-
-abbrev pub invariant-loop-number : goal.invariant-loop-number
-invariant-loop-number g l = Keeps l.ring l.initial.pass l.pass × Keeps l.other l.initial.another l.another

@@ -1,4 +1,0 @@
-use Rattle.word_bench.proofs.apart.receive_next.Goals as goal
-
-pub await_end-ended-requires-clause-holds : goal.await_end-ended-requires-clause-holds
-await_end-ended-requires-clause-holds c = c.in-Waiting.ensures.begins

@@ -1,4 +1,0 @@
-use Rattle.word_bench.proofs.apart.send.Goals as goal
-
-pub admit_first-requires-clause-plain : goal.admit_first-requires-clause-plain
-admit_first-requires-clause-plain c = c.in-Held.ensures.begins

@@ -1,2 +1,0 @@
-pub mod CellsStayDrawn
-pub mod LatestCalls

@@ -1,2 +1,0 @@
-pub mod CellsDrawn
-pub mod LatestChannels
