@@ -56,7 +56,7 @@ WORDS = [
     (2, "explain none.co", "", "there is no file 'none.co' for explain to read"),
     (2, "explore --fnid held", "", "explore has no option '--fnid'"),
     (2, "explore --find", "", "--find has no value"),
-    (2, "judge --all", "", "judge has no option '--all'; it takes a file"),
+    (2, "judge --all", "", "judge has no option '--all'; it takes a history, or a script and its log or report"),
     (70, "run README.md", "", "the toolchain's command rt is not found on the path"),
 ]
 
