@@ -81,7 +81,7 @@ fn run_together<B: Book + Send, R: Threads + Wait + Sync, G: Gate + Sync>(
         return run_alone(alloc, script, gate);
     }
     let run = run_many(rt, alloc, script, workers, gate)?;
-    Ok(left_over_words(script, run))
+    Ok(left_of_words(script, run))
 }
 
 /// Runs the script in the calling thread until no coroutine can go on.
@@ -106,7 +106,7 @@ fn left_of<B: Book>(script: &Script, run: ListRun<B>) -> Done<B>
 }
 
 /// What a run over words leaves, without its channels and Jobs.
-fn left_over_words<B: Book>(script: &Script, run: WordRun<B>) -> Done<B>
+fn left_of_words<B: Book>(script: &Script, run: WordRun<B>) -> Done<B>
     requires { CameToRestOverWords B.items (program_of script.now) run }
     ensures { LeftInOneOrder B.items (program_of script.now) result }
 {

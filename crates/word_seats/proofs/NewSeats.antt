@@ -1,5 +1,5 @@
 -- Seats that are split off, one by one.
-use Rattle.std.specs.Prelude.{◌≡◌, ℕ, zero, suc, ◌+◌, ◌/◌, ◌%◌, ◌==◌, ◌<◌, Bool, true, false, List, [], ◌∷◌, ◌++◌, length, Option, Some, None, slice_get, if◌then◌else◌, refl}
+use Rattle.std.specs.Prelude.{◌≡◌, ℕ, ◌+◌, ◌/◌, ◌%◌, ◌==◌, ◌<◌, Bool, true, false, List, [], ◌∷◌, ◌++◌, length, if◌then◌else◌, refl}
 use Rattle.std.proofs.Common.{ap, sym, ◌∙◌, subst, arith, length-append, ne_eqb}
 use Rattle.joined_words.proofs.PartsOfLists.{tag_place}
 use Rattle.std.proofs.lemmas.Bool.{eqb-true}
@@ -17,7 +17,7 @@ use Rattle.job_words.specs.declared.forest.Forest.{Forest}
 use Rattle.job_words.specs.declared.pass.JobPass.{JobPass}
 use Rattle.job_words.specs.Meetings.{NothingOf}
 use Rattle.job_words.specs.Forests.{seen_by, GivesTags as GivesJobTags}
-use Rattle.word_seats.specs.Seats.{may_act, hub_anchor, hub_may_act, may_act_beside, forest_anchor, forest_may_act, NobodyFrom, IsNewFloor, IsNewJobFloor, IsNewBeside, WhereSome, AreNewSeats, AreNewJobSeats}
+use Rattle.word_seats.specs.Seats.{may_act, hub_anchor, hub_may_act, may_act_beside, forest_anchor, forest_may_act, NobodyFrom, IsNewFloor, IsNewJobFloor, IsNewBeside}
 use Rattle.word_seats.proofs.Given.{ungiven}
 
 -- the one tag of a new seat
@@ -112,35 +112,10 @@ new_job_floor old new tag sees none = record {
   unclaimed = none.rows;
 }
 
--- what holds of every place holds of every place of a list that has one element more
-pub pushed_at : {A : Type 0} (P : ℕ → Option A → Type 0) (xs : List A) (y : A) → ((k : ℕ) → P k None) → ((k : ℕ) → P k (slice_get xs k))
-    → P (length xs) (Some y) → (k : ℕ) → P k (slice_get (xs ++ y ∷ []) k)
-pushed_at P [] y none all here zero = here
-pushed_at P [] y none all here (suc k) = none (suc k)
-pushed_at P (x ∷ xs) y none all here zero = all zero
-pushed_at P (x ∷ xs) y none all here (suc k) = pushed_at (λ n. P (suc n)) xs y (λ n. none (suc n)) (λ n. all (suc n)) here k
-
 -- ---- one seat more
 
-module _ {S : Type 0} (old new : List S) (tag : ℕ) (seat : S) where
-  pub counted : new ≡ old ++ seat ∷ [] → 1 + length old ≡ tag → 1 + length new ≡ tag + 1
-  counted e count =
-      let n = length-append old (seat ∷ []) in
-      let m = ap (λ (l : List S). length l) e in
-      omega (arith, n, m, count)
-
-  pub seats_more : (view : S → ChannelFloor) (main : ChannelFloor) → new ≡ old ++ seat ∷ [] → 1 + length old ≡ tag
-      → AreNewSeats view main old → IsNewFloor tag main (view seat) → AreNewSeats view main new
-  seats_more view main e count all here =
-      let n : tag ≡ length old + 1 = omega (arith, count) in
-      subst (λ (l : List S). AreNewSeats view main l) (sym e)
-      (pushed_at (λ (i : ℕ) (o : Option S). WhereSome (λ s. IsNewFloor (i + 1) main (view s)) o) old seat (λ k. tt) all
-      (subst (λ (m : ℕ). IsNewFloor m main (view seat)) n here))
-
-  pub job_seats_more : (view : S → Floor) (main : Floor) → new ≡ old ++ seat ∷ [] → 1 + length old ≡ tag → AreNewJobSeats view main old
-      → IsNewJobFloor tag main (view seat) → AreNewJobSeats view main new
-  job_seats_more view main e count all here =
-      let n : tag ≡ length old + 1 = omega (arith, count) in
-      subst (λ (l : List S). AreNewJobSeats view main l) (sym e)
-      (pushed_at (λ (i : ℕ) (o : Option S). WhereSome (λ s. IsNewJobFloor (i + 1) main (view s)) o) old seat (λ k. tt) all
-      (subst (λ (m : ℕ). IsNewJobFloor m main (view seat)) n here))
+pub counted : {S : Type 0} (old new : List S) (tag : ℕ) (seat : S) → new ≡ old ++ seat ∷ [] → 1 + length old ≡ tag → 1 + length new ≡ tag + 1
+counted {S = S} old new tag seat e count =
+    let n = length-append old (seat ∷ []) in
+    let m = ap (λ (l : List S). length l) e in
+    omega (arith, n, m, count)

@@ -1,5 +1,5 @@
 -- What is seen of seats, and of which tags they know that nobody acts under them.
-use Rattle.std.specs.Prelude.{◌≡◌, ◌≢◌, ℕ, ◌+◌, ◌==◌, ◌≤◌, Bool, true, false, List, [], Option, Some, None, slice_get, if◌then◌else◌}
+use Rattle.std.specs.Prelude.{◌≡◌, ◌≢◌, ℕ, ◌+◌, ◌==◌, ◌≤◌, Bool, true, false, List, [], if◌then◌else◌}
 use Rattle.channel_model.specs.Histories.{acts_of}
 use Rattle.channel_model.specs.Floors.{Floor as ChannelFloor}
 use Rattle.job_model.specs.Histories.{acts_of as job_acts_of}
@@ -72,15 +72,3 @@ pub record IsNewBeside (tag : ℕ) (new : Floor) : Type 0 where
   pub callers : (k : ℕ) → new.callers k ≡ (k == tag)
   pub none : job_acts_of tag new.seen ≡ []
   pub unclaimed : (r : ℕ) → r ≢ 0 → is_claimed_by tag (new.claims r) ≡ false
-
--- where there is one, it is so
-abbrev pub WhereSome : {A : Type 0} → (A → Type 0) → Option A → Type 0
-WhereSome P None = Unit {0}
-WhereSome P (Some x) = P x
-
--- seats of the tags 1, 2 and so on, as `view` shows them
-abbrev pub AreNewSeats : {S : Type 0} → (S → ChannelFloor) → ChannelFloor → List S → Type 0
-AreNewSeats view main seats = (i : ℕ) → WhereSome (λ s. IsNewFloor (i + 1) main (view s)) (slice_get seats i)
-
-abbrev pub AreNewJobSeats : {S : Type 0} → (S → Floor) → Floor → List S → Type 0
-AreNewJobSeats view main seats = (i : ℕ) → WhereSome (λ s. IsNewJobFloor (i + 1) main (view s)) (slice_get seats i)

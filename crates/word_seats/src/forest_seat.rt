@@ -30,6 +30,16 @@ pub struct ForestSeat<'a, N: TableName> {
     pub ghost named: { IsNamedForest N.table N.table_key forest.now } by { Prim.hlevel props },
 }
 
+/// Lends the forest and the pass of a seat to a `Ranger` for one call.
+macro_rules! ranger {
+    ($seat:ident) => {
+        Ranger {
+            forest: $seat.forest,
+            pass: &mut $seat.pass,
+        }
+    };
+}
+
 impl<N: TableName> JobFloor for ForestSeat<'_, N> {
     ghost use Rattle.std.specs.Prelude.{◌≡◌, OnOk, OnErr, IsOk};
     ghost use Rattle.job_model.specs.Floors.{HasRoom};
@@ -64,67 +74,35 @@ impl<N: TableName> JobFloor for ForestSeat<'_, N> {
         kind: JobKind,
         tag: Tag,
     ) -> Result<Attached, AttachError> {
-        Ranger {
-            forest: self.forest,
-            pass: &mut self.pass,
-        }
-        .attach(who, parent, kind, tag)
+        ranger!(self).attach(who, parent, kind, tag)
     }
 
     fn start(&mut self, who: Tag, row: Row) -> bool {
-        Ranger {
-            forest: self.forest,
-            pass: &mut self.pass,
-        }
-        .start(who, row)
+        ranger!(self).start(who, row)
     }
 
     fn end_body(&mut self, who: Tag, row: Row, value: Value) -> Ended {
-        Ranger {
-            forest: self.forest,
-            pass: &mut self.pass,
-        }
-        .end_body(who, row, value)
+        ranger!(self).end_body(who, row, value)
     }
 
     fn cancel_one(&mut self, who: Tag, row: Row, reason: Reason) -> CancelledNow {
-        Ranger {
-            forest: self.forest,
-            pass: &mut self.pass,
-        }
-        .cancel_one(who, row, reason)
+        ranger!(self).cancel_one(who, row, reason)
     }
 
     fn finish(&mut self, who: Tag, row: Row) -> Finished {
-        Ranger {
-            forest: self.forest,
-            pass: &mut self.pass,
-        }
-        .finish(who, row)
+        ranger!(self).finish(who, row)
     }
 
     fn gone(&mut self, who: Tag, row: Row) -> Ended {
-        Ranger {
-            forest: self.forest,
-            pass: &mut self.pass,
-        }
-        .gone(who, row)
+        ranger!(self).gone(who, row)
     }
 
     fn look(&mut self, who: Tag, row: Row) -> Option<JobView> {
-        Ranger {
-            forest: self.forest,
-            pass: &mut self.pass,
-        }
-        .look(who, row)
+        ranger!(self).look(who, row)
     }
 
     fn link(&mut self, who: Tag, row: Row) -> Link {
-        Ranger {
-            forest: self.forest,
-            pass: &mut self.pass,
-        }
-        .link(who, row)
+        ranger!(self).link(who, row)
     }
 
     ghost shaped = { λ r. r.pass.shaped };

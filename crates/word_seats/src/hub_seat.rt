@@ -34,6 +34,16 @@ pub struct HubSeat<'a, N: TableName> {
     pub ghost named: { IsNamedHub N.table N.table_key hub.now } by { Prim.hlevel props },
 }
 
+/// Lends the hub and the pass of a seat to a `Desk` for one call.
+macro_rules! desk {
+    ($seat:ident) => {
+        Desk {
+            hub: $seat.hub,
+            pass: &mut $seat.pass,
+        }
+    };
+}
+
 impl<N: TableName> ChannelFloor for HubSeat<'_, N> {
     ghost use Rattle.std.specs.Prelude.{◌≡◌, OnOk, OnErr, IsOk};
     ghost use Rattle.channel_model.specs.Floors.{HasRoom};
@@ -58,35 +68,19 @@ impl<N: TableName> ChannelFloor for HubSeat<'_, N> {
     }
 
     fn offer(&mut self, who: Tag, c: ChannelId, value: Value) -> Offered {
-        Desk {
-            hub: self.hub,
-            pass: &mut self.pass,
-        }
-        .offer(who, c, value)
+        desk!(self).offer(who, c, value)
     }
 
     fn try_offer(&mut self, who: Tag, c: ChannelId, value: Value) -> TriedOffer {
-        Desk {
-            hub: self.hub,
-            pass: &mut self.pass,
-        }
-        .try_offer(who, c, value)
+        desk!(self).try_offer(who, c, value)
     }
 
     fn receive(&mut self, who: Tag, c: ChannelId) -> Got {
-        Desk {
-            hub: self.hub,
-            pass: &mut self.pass,
-        }
-        .receive(who, c)
+        desk!(self).receive(who, c)
     }
 
     fn try_receive(&mut self, who: Tag, c: ChannelId) -> TriedGot {
-        Desk {
-            hub: self.hub,
-            pass: &mut self.pass,
-        }
-        .try_receive(who, c)
+        desk!(self).try_receive(who, c)
     }
 
     fn register_offer(
@@ -97,11 +91,7 @@ impl<N: TableName> ChannelFloor for HubSeat<'_, N> {
         c: ChannelId,
         value: Value,
     ) -> Registered {
-        Desk {
-            hub: self.hub,
-            pass: &mut self.pass,
-        }
-        .register_offer(who, main, clause, c, value)
+        desk!(self).register_offer(who, main, clause, c, value)
     }
 
     fn register_receive(
@@ -111,99 +101,51 @@ impl<N: TableName> ChannelFloor for HubSeat<'_, N> {
         clause: u8,
         c: ChannelId,
     ) -> Registered {
-        Desk {
-            hub: self.hub,
-            pass: &mut self.pass,
-        }
-        .register_receive(who, main, clause, c)
+        desk!(self).register_receive(who, main, clause, c)
     }
 
     fn close(&mut self, who: Tag, c: ChannelId, v: Value) -> Result<(), AlreadyClosed> {
-        Desk {
-            hub: self.hub,
-            pass: &mut self.pass,
-        }
-        .close(who, c, v)
+        desk!(self).close(who, c, v)
     }
 
     fn wake_closed(&mut self, who: Tag, c: ChannelId) -> Option<(Place, Tag)> {
-        Desk {
-            hub: self.hub,
-            pass: &mut self.pass,
-        }
-        .wake_closed(who, c)
+        desk!(self).wake_closed(who, c)
     }
 
     fn void(&mut self, who: Tag, c: ChannelId) -> bool {
-        Desk {
-            hub: self.hub,
-            pass: &mut self.pass,
-        }
-        .void(who, c)
+        desk!(self).void(who, c)
     }
 
     fn drain(&mut self, who: Tag, c: ChannelId) -> Option<(Place, Value, Option<Tag>)> {
-        Desk {
-            hub: self.hub,
-            pass: &mut self.pass,
-        }
-        .drain(who, c)
+        desk!(self).drain(who, c)
     }
 
     fn look(&mut self, who: Tag, w: WaitId) -> WaitState {
-        Desk {
-            hub: self.hub,
-            pass: &mut self.pass,
-        }
-        .look(who, w)
+        desk!(self).look(who, w)
     }
 
     fn settle(&mut self, who: Tag, w: WaitId, cancelled: bool) -> Settled {
-        Desk {
-            hub: self.hub,
-            pass: &mut self.pass,
-        }
-        .settle(who, w, cancelled)
+        desk!(self).settle(who, w, cancelled)
     }
 
     fn withdraw(&mut self, who: Tag, w: WaitId, why: Why) -> Withdrawn {
-        Desk {
-            hub: self.hub,
-            pass: &mut self.pass,
-        }
-        .withdraw(who, w, why)
+        desk!(self).withdraw(who, w, why)
     }
 
     fn mark(&mut self, who: Tag, c: ChannelId) -> Place {
-        Desk {
-            hub: self.hub,
-            pass: &mut self.pass,
-        }
-        .mark(who, c)
+        desk!(self).mark(who, c)
     }
 
     fn admit(&mut self, who: Tag, c: ChannelId, mark: Place) -> Option<(Place, Tag)> {
-        Desk {
-            hub: self.hub,
-            pass: &mut self.pass,
-        }
-        .admit(who, c, mark)
+        desk!(self).admit(who, c, mark)
     }
 
     fn trim(&mut self, who: Tag, c: ChannelId, mine: Place) -> Option<(Place, Value)> {
-        Desk {
-            hub: self.hub,
-            pass: &mut self.pass,
-        }
-        .trim(who, c, mine)
+        desk!(self).trim(who, c, mine)
     }
 
     fn spurn(&mut self, who: Tag, c: ChannelId, mine: Place) -> Option<Value> {
-        Desk {
-            hub: self.hub,
-            pass: &mut self.pass,
-        }
-        .spurn(who, c, mine)
+        desk!(self).spurn(who, c, mine)
     }
 
     ghost legal = { λ s. hub_legal s.hub.now s.pass s.of };

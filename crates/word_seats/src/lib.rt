@@ -19,7 +19,6 @@
 //! - `hub_meetings`, `forest_meetings`: how seats are split, met and ended.
 //! - `beside`: how the two seats of a coroutine hear each other.
 //! - `run_table`: a hub and a forest on one table.
-//! - `seating`: a seat for each of many tags.
 //! - `laws`: what holds of a hub between any two steps: that each element has at most one fate, proved in `proofs/OneFate.antt`.
 #![tactic(auto)]
 
@@ -31,7 +30,6 @@ mod hub_seat;
 mod laws;
 mod names;
 mod run_table;
-mod seating;
 
 pub use beside::SharedBeside;
 pub use forest_seat::{ForestSeat, ForestSeatAnchor};
