@@ -5,8 +5,9 @@ use cell_words::Hub;
 use channel_model::{Got, Kind, Offered};
 use co_base::{Failed, Value};
 use future_bridge::{Drive, DriveError, HostDrive, ReceiveStream, Spent, Stopped, collect_all};
+use futures::future::{Either, ready, select};
 use futures::task::{Context, Poll};
-use futures::{Future, Stream};
+use futures::{Future, Stream, StreamExt};
 use std::test::Fail;
 
 /// A drive that fails at each call.
@@ -103,6 +104,44 @@ fn a_stream_that_is_stopped_gives_its_element_up(rt: HostRuntime) -> Result<(), 
     let found = (pending, sent, [stopped, idle]);
     let wanted = [Stopped::Undelivered(5), Stopped::Idle];
     assert_eq!(rt; found, (true, Offered::Handed(0, 1), wanted));
+    Ok(())
+}
+
+#[test]
+fn a_stream_that_is_dropped_takes_its_wait_back(rt: HostRuntime) -> Result<(), Fail> {
+    let kinds = [(Kind::Rendezvous, 4u32)];
+    let (hub, mut main) = Hub::new(rt.alloc(), &kinds)?;
+    let a = hub.split(&mut main, 1);
+    let mut b = hub.split(&mut main, 2);
+    let mut host = HostDrive::new(&rt);
+    let once = PolledOnce {
+        stream: Some(ReceiveStream::new(&hub, a, 1, 0)),
+    };
+    let Ok((stream, pending, _item)) = host.drive(once) else {
+        panic!(rt; "driven");
+    };
+    drop(stream);
+    let sent = send(&hub, &mut b, 2, 5);
+    assert_eq!(rt; (pending, sent), (true, Offered::Held(1)));
+    Ok(())
+}
+
+#[test]
+fn a_collect_that_is_dropped_takes_its_wait_back(rt: HostRuntime) -> Result<(), Fail> {
+    let kinds = [(Kind::Rendezvous, 4u32)];
+    let (hub, mut main) = Hub::new(rt.alloc(), &kinds)?;
+    let a = hub.split(&mut main, 1);
+    let mut b = hub.split(&mut main, 2);
+    let mut host = HostDrive::new(&rt);
+    let collects = ReceiveStream::new(&hub, a, 1, 0)
+        .take(2)
+        .collect(rt.alloc());
+    let Ok(Either::Right((7, collects))) = host.drive(select(collects, ready(7u32))) else {
+        panic!(rt; "the other is ready first");
+    };
+    drop(collects);
+    let sent = send(&hub, &mut b, 2, 5);
+    assert_eq!(rt; sent, Offered::Held(1));
     Ok(())
 }
 

@@ -160,12 +160,9 @@ spent_gains who c a d m = (gained_looked who c a d m.0, m.1, added_looked who a 
 
 -- ---- a look
 
-unsettled_own : (who : ℕ) (x : Option Wait) → IsUnsettledOf who x → IsOwnWait who x
+pub unsettled_own : (who : ℕ) (x : Option Wait) → IsUnsettledOf who x → IsOwnWait who x
 unsettled_own who None h = h
 unsettled_own who (Some x) h = h.0
-
-pub last_own : (who c p : ℕ) (a : Floor) → AwaitsLast who c p a → IsOwn who (wait_at c p) a
-last_own who c p a h = unsettled_own who _ h.holds
 
 still_last : (who c p : ℕ) (a d : Floor) → Legal d.shape d.seen → Looked who a d → AwaitsLast who c p a → AwaitsLast who c p d
 still_last who c p a d l h k = record {

@@ -15,7 +15,7 @@ use Rattle.cell_words.specs.Hubs.{IsOwn, SameGiving}
 use Rattle.cell_calls.specs.HubFloors.{hub_floor}
 use Rattle.future_bridge.specs.declared.receiving.Spent.{Spent}
 use Rattle.future_bridge.specs.Gains.{Gained, EndsAs, EndsBy, IsOver, HasNoPlace}
-use Rattle.future_bridge.specs.declared.receiving.ReceiveStream.{ReceiveStream}
+use Rattle.future_bridge.specs.declared.streams.ReceiveStream.{ReceiveStream}
 use Rattle.future_bridge.specs.Streams.{RunsSo, elements_of, EndsWith, GoesOn, CollectsSo, Stands, StreamYields, SameStream, GainedBy, IsOverBy, PolledSo, floor_of}
 use Rattle.future_bridge.proofs.GainsGo.{gained_then}
 

@@ -60,6 +60,11 @@ pub record Gained (who c : ℕ) (elements : List ℕ) (old new : Floor) : Type 0
 abbrev pub wait_at : ℕ → ℕ → WaitId
 wait_at c place = record { channel = c; place = place }
 
+-- who's wait at this place, if it has one there, did not end
+abbrev pub HoldsAt : ℕ → ℕ → Floor → Option ℕ → Type 0
+HoldsAt who c floor None = Unit {0}
+HoldsAt who c floor (Some place) = IsUnsettledOf who ((replay floor.seen).waits (wait_at c place))
+
 -- who's last act placed a receiver here, whose wait did not end
 pub record AwaitsLast (who c place : ℕ) (floor : Floor) : Type 0 where
   pub earlier : List Act

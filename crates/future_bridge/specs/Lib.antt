@@ -1,5 +1,6 @@
 pub mod Drives
 pub mod Gains
+pub mod Once
 pub mod Sends
 pub mod Sinks
 pub mod Lists

@@ -1,5 +1,5 @@
 -- How a wait ends that is given up.
-use Rattle.std.specs.Prelude.{ℕ, [], ◌∷◌}
+use Rattle.std.specs.Prelude.{◌≡◌, ℕ, [], ◌∷◌, Option, Some, None}
 use Rattle.channel_model.specs.declared.acts.Act.TheVariants.{Withdraw, Settle}
 use Rattle.channel_model.specs.declared.acts.Settled.{Settled}
 use Rattle.channel_model.specs.declared.acts.Settled.TheVariants as settled
@@ -7,6 +7,10 @@ use Rattle.channel_model.specs.declared.acts.Why.TheVariants as why
 use Rattle.channel_model.specs.Histories.{replay}
 use Rattle.channel_model.specs.Floors.{Floor, Added}
 use Rattle.channel_model.specs.Answers.{IsResolvedWait}
+use Rattle.cell_words.specs.declared.hub.Hub.{Hub}
+use Rattle.cell_words.specs.declared.pass.Pass.{Pass}
+use Rattle.cell_words.specs.Hubs.{IsOwn, SameGiving}
+use Rattle.cell_calls.specs.HubFloors.{hub_floor}
 use Rattle.future_bridge.specs.declared.receiving.Stopped.{Stopped}
 use Rattle.future_bridge.specs.declared.receiving.Stopped.TheVariants as stopped
 use Rattle.future_bridge.specs.Gains.{wait_at, AdmitsAll}
@@ -40,3 +44,16 @@ pub record EndedSo (who c place : ℕ) (old new : Floor) (result : Stopped) : Ty
   pub back : TakenBack who c place old taken
   pub ends : GivenUp who c place taken settled result
   pub admits : AdmitsAll who c settled new
+
+-- ---- who stood at a wait, or at none, and stops
+
+-- by the wait: there was none, or it ended so
+abbrev pub StopsSo : Hub → Pass → ℕ → ℕ → Option ℕ → Pass → Stopped → Type 0
+StopsSo hub old who c None new result = (new ≡ old) × (result ≡ stopped.Idle)
+StopsSo hub old who c (Some place) new result = EndedSo who c place (hub_floor hub old) (hub_floor hub new) result
+
+-- and the pass is one of its hub, and gives out tags as before
+pub record StoppedAt (hub : Hub) (old : Pass) (who c : ℕ) (wait : Option ℕ) (new : Pass) (result : Stopped) : Type 0 where
+  pub own : IsOwn hub new who
+  pub giving : SameGiving old new
+  pub stops : StopsSo hub old who c wait new result

@@ -7,12 +7,9 @@ use Rattle.cell_words.specs.declared.hub.Hub.{Hub}
 use Rattle.cell_words.specs.declared.pass.Pass.{Pass}
 use Rattle.cell_words.specs.Hubs.{shape_of, IsOwn, SameGiving}
 use Rattle.cell_calls.specs.HubFloors.{hub_floor}
-use Rattle.future_bridge.specs.declared.receiving.ReceiveStream.{ReceiveStream}
+use Rattle.future_bridge.specs.declared.streams.ReceiveStream.{ReceiveStream}
 use Rattle.future_bridge.specs.declared.receiving.Spent.{Spent}
-use Rattle.future_bridge.specs.declared.receiving.Stopped.{Stopped}
-use Rattle.future_bridge.specs.declared.receiving.Stopped.TheVariants as stopped
 use Rattle.future_bridge.specs.Gains.{Gained, AwaitsLast, WaitsAt, IsOver, HasNoPlace, EndsAs, ReceivesBy, EndsBy, SpentBy, WaitsBy}
-use Rattle.future_bridge.specs.Stops.{EndedSo}
 
 -- ---- where a stream stands
 
@@ -116,16 +113,3 @@ pub record CollectsSo (hub : Hub) (pass : Pass) (who c : ℕ) (ended : Bool) (be
   pub giving : SameGiving pass pass'
   pub gained : Gained who c (elements_of items) (hub_floor hub pass) (hub_floor hub pass')
   pub ends : GoesOn ended c (hub_floor hub pass) (hub_floor hub pass') items
-
--- ---- a stream that is stopped
-
--- by its wait: it had none, or the wait ended so
-abbrev pub StopsSo : ReceiveStream → Option ℕ → Pass → Stopped → Type 0
-StopsSo s None pass result = (pass ≡ s.pass) × (result ≡ stopped.Idle)
-StopsSo s (Some place) pass result = EndedSo s.who s.c place (floor_of s) (hub_floor s.hub.now pass) result
-
--- and the pass is one of its hub, and gives out tags as before
-pub record StoppedSo (s : ReceiveStream) (pass : Pass) (result : Stopped) : Type 0 where
-  pub own : IsOwn s.hub.now pass s.who
-  pub giving : SameGiving s.pass pass
-  pub stops : StopsSo s s.wait pass result

@@ -6,7 +6,8 @@ ghost use Rattle.future_bridge.specs.declared.drives.DriveError.TheVariants as d
 ghost use Rattle.future_bridge.specs.Streams.{Stands, CollectsSo};
 
 use crate::drives::{Drive, DriveError};
-use crate::receiving::{ReceiveStream, Spent};
+use crate::receiving::Spent;
+use crate::streams::ReceiveStream;
 use cell_words::{Hub, Pass};
 use co_base::{ChannelId, Memory, Tag, Value};
 use futures::task::{Context, Poll};
@@ -56,7 +57,7 @@ impl<'a> Future for CollectAll<'a> {
                 cx.yield_now()
             }
             Poll::Ready(None) => match mem::try_take(&mut self.items) {
-                Ok(items) => Poll::Ready(Ok((stream.pass, items))),
+                Ok(items) => Poll::Ready(Ok((stream.into_pass(), items))),
                 Err(_) => Poll::Ready(Err(Memory)),
             },
             Poll::Pending => {

@@ -9,7 +9,7 @@
 //! - `drives`: what drives a future to its end
 //! - `steps`: one receive with what follows it, and one look at a wait
 //! - `stops`: the end of a wait that is given up
-//! - `receiving`: a channel as a stream
+//! - `streams`, `receiving`: a channel as a stream
 //! - `collecting`: all elements of a channel
 //! - `send_steps`: one offer with what follows it, and one look at an own offer
 //! - `sending`: a channel as a sink
@@ -28,10 +28,12 @@ mod sending;
 mod starts;
 mod steps;
 mod stops;
+mod streams;
 
 pub use collecting::{CollectAll, collect_all};
 pub use drives::{Drive, DriveError, HostDrive};
 pub use jobs::{JobFuture, await_job};
 pub use lists::{ListFault, SendList, send_list};
-pub use receiving::{ReceiveStream, Spent, Stopped};
+pub use receiving::{Spent, Stopped};
 pub use sending::{SendSink, SinkFault};
+pub use streams::ReceiveStream;

@@ -4,12 +4,12 @@ ghost use Rattle.futures.specs.Runs.{After, Within};
 ghost use Rattle.futures.specs.Task.{Covers, Keeps};
 ghost use Rattle.futures.specs.Poll.{IfReady, OnPending};
 ghost use Rattle.cell_words.specs.Hubs.{shape_of, IsOwn};
-ghost use Rattle.future_bridge.specs.Streams.{Stands, IsNew, StreamYields, SameStream, PolledSo, StoppedSo};
+ghost use Rattle.future_bridge.specs.Streams.{Stands, IsNew, StreamYields, SameStream, PolledSo};
 
 use crate::steps::{Step, step_on};
-use crate::stops::end_wait;
+use crate::streams::ReceiveStream;
 use cell_words::{Hub, Pass};
-use co_base::{ChannelId, Place, Tag, Value};
+use co_base::{ChannelId, Tag, Value};
 use futures::Stream;
 use futures::task::{Context, Poll};
 
@@ -26,18 +26,6 @@ pub enum Stopped {
     Cancelled,
     /// A wait that was given this element, which is given up.
     Undelivered(Value),
-}
-
-/// The elements of a channel, received one by one. It ends once the channel is closed and empty, and after the item `Err(Spent)`.
-#[derive(Drop)]
-pub struct ReceiveStream<'a> {
-    pub(crate) hub: &'a Hub,
-    pub(crate) pass: Pass,
-    pub(crate) who: Tag,
-    pub(crate) c: ChannelId,
-    /// The place of its receiver, while that did not end.
-    pub(crate) wait: Option<Place>,
-    pub(crate) ended: bool,
 }
 
 impl<'a> ReceiveStream<'a> {
@@ -57,28 +45,6 @@ impl<'a> ReceiveStream<'a> {
             c,
             wait: None,
             ended: false,
-        }
-    }
-
-    /// Gives the pass back. A receiver that waits is taken back, and an element that came to it meanwhile is given up.
-    pub fn stop(self) -> (Pass, Stopped)
-        requires stands { Stands self }
-        ensures stopped { StoppedSo self.entry result.0 result.1 }
-    {
-        let ReceiveStream {
-            hub,
-            mut pass,
-            who,
-            c,
-            wait,
-            ended: _,
-        } = self;
-        match wait {
-            None => (pass, Stopped::Idle),
-            Some(place) => {
-                let stopped = end_wait(hub, &mut pass, who, c, place);
-                (pass, stopped)
-            }
         }
     }
 }
