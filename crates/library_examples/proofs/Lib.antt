@@ -4,4 +4,5 @@ pub mod CollectedElements
 pub mod AttachedChild
 pub mod FirstElements
 pub mod FreshPasses
+pub mod Prefixes
 pub mod TagsEnded

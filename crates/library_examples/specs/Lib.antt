@@ -1,3 +1,4 @@
 pub mod Examples
 pub mod Passes
 pub mod CellsLeft
+pub mod Rings

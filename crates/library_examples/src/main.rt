@@ -7,7 +7,8 @@
 //! - `three_passes`: three coroutines over words, with a pass for each
 //! - `counted`: to send in counted cells, waiting for nobody
 //! - `parcels`: to send texts that the sender owns, and to have those back that nobody received
-//! - `rings`: to send and to receive on a ring, or else to wait
+//! - `rings`: to put and to take on a ring, to send and to receive or else to wait, and what is left of it
+//! - `ring_waits`: to send and to receive on a ring on which who has to wait sleeps; a select, a rendezvous, a sink and a stream
 //! - `scopes`: to launch and to cancel, to enter a scope and to see its end, by a `Builder` over both, with the done channels of Jobs
 #![tactic(auto)]
 
@@ -16,6 +17,7 @@ mod channels;
 mod counted;
 mod jobs;
 mod parcels;
+mod ring_waits;
 mod rings;
 mod scopes;
 mod semaphores;
@@ -35,13 +37,16 @@ use note_book::Notes;
 use one_thread_floor::{ListFloor, TreeFloor};
 use parcel_channel::{ParcelGot, ParcelHub};
 use parcels::{left_over, send_text};
-use rings::named_by_a_send;
+use ring_bridge::Bells;
+use ring_waits::{by_sink_and_stream, by_two_threads, of_two_rings};
+use rings::{named_by_a_send, three_put};
 use scope_builders::{Builder, LaunchError};
 use scopes::{launch_and_cancel, scope_result};
 use std::alloc::{AllocGlobal, Global};
 use std::fmt::Debug;
 use std::random::RandomSource;
 use std::sync::Wait;
+use std::thread::Threads;
 use three_passes::{free_permits, given_up, number_behind_a_mutex};
 
 /// Whoever was woken last.
@@ -200,10 +205,17 @@ fn three_texts(alloc: Global) -> Result<Texts, Memory> {
     })
 }
 
-/// Says what came of a text that is sent to a receiver which waits.
-fn tell_of_rings<R: Print>(rt: &R, alloc: Global) {
-    if let Ok(text) = String::from_str(alloc, "first") {
-        tell(rt, "named by a send", &named_by_a_send(alloc, text));
+fn tell_of_rings<R: Print + Threads + Wait + Sync + RandomSource + AllocGlobal>(rt: &R) {
+    tell(rt, "three put", &three_put(rt.alloc()));
+    tell(rt, "named by a send", &named_by_a_send(rt.alloc()));
+    if let Ok(bells) = Bells::new(rt.alloc()) {
+        tell(rt, "by two threads", &by_two_threads(rt, &bells));
+        tell(rt, "of two rings", &of_two_rings(rt, &bells));
+        tell(
+            rt,
+            "by a sink and a stream",
+            &by_sink_and_stream(rt, &bells),
+        );
     }
 }
 
@@ -244,5 +256,5 @@ fn main(rt: HostRuntime) {
     tell_of_bridges(&rt);
     tell(&rt, "two sends", &two_sends(alloc));
     tell(&rt, "three texts", &three_texts(alloc));
-    tell_of_rings(&rt, alloc);
+    tell_of_rings(&rt);
 }
