@@ -15,14 +15,52 @@ pub(crate) struct Poll {
     pub(crate) hash: u64,
 }
 
-/// The first poll that does something in a state, if there is one, the key of the state that it leads to, and from which tag on no poll
-/// does anything.
+/// A poll that does something in a state, if there is one; how many words the key has of the state that it leads to; and from which tag on
+/// no poll does anything.
+#[derive(Clone, Copy)]
+pub(crate) struct Found {
+    pub(crate) poll: Option<Poll>,
+    pub(crate) words: usize,
+    pub(crate) stuck_from: Tag,
+}
+
+/// What was found of a state, and of those behind it, of which each is reached by the poll that was found of the one before; and the keys
+/// of the states that these polls lead to, one behind another.
 #[derive(Drop)]
 pub(crate) struct Ahead {
     state: u32,
-    pub(crate) first: Option<Poll>,
-    pub(crate) stuck_from: Tag,
-    pub(crate) key: Vec<u64>,
+    found: Vec<Found>,
+    keys: Vec<u64>,
+}
+
+impl Ahead {
+    /// What was found of the state itself.
+    pub(crate) fn first(&self) -> Option<Found> {
+        self.found.first().copied()
+    }
+
+    /// The key of the state that its poll leads to.
+    pub(crate) fn first_key(&self) -> &[u64] {
+        self.keys.get(0..self.first_words()).unwrap_or(&[])
+    }
+
+    /// What was found of the states behind it.
+    pub(crate) fn rest(&self) -> &[Found] {
+        self.found.get(1..self.found.len()).unwrap_or(&[])
+    }
+
+    /// The keys of the states that those polls lead to.
+    pub(crate) fn rest_keys(&self) -> &[u64] {
+        let from = self.first_words();
+        self.keys.get(from..self.keys.len()).unwrap_or(&[])
+    }
+
+    fn first_words(&self) -> usize {
+        match self.found.first() {
+            Some(found) => found.words,
+            None => 0,
+        }
+    }
 }
 
 /// Those of some states, in the order of the states.
@@ -38,21 +76,14 @@ impl Aheads {
         }
     }
 
-    /// Keeps that of the last state, unless it has enough.
-    pub(crate) fn keep(
-        &mut self,
-        state: u32,
-        first: Option<Poll>,
-        stuck_from: Tag,
-        key: &[u64],
-    ) -> Result<(), Memory> {
-        if self.kept.len() < MOST {
+    /// Keeps what was found of the last state and of those behind it, if anything was, unless there is enough.
+    pub(crate) fn keep(&mut self, state: u32, found: &[Found], keys: &[u64]) -> Result<(), Memory> {
+        if self.kept.len() < MOST && !found.is_empty() {
             let alloc = *self.kept.allocator();
             self.kept.push_back(Ahead {
                 state,
-                first,
-                stuck_from,
-                key: Vec::from_slice(alloc, key)?,
+                found: Vec::from_slice(alloc, found)?,
+                keys: Vec::from_slice(alloc, keys)?,
             })?;
         }
         Ok(())

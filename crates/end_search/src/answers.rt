@@ -6,6 +6,7 @@ ghost use Rattle.end_search.specs.Blocks.{Blocks, Explores, Fits, TellsInOrder, 
 
 use crate::blocks::{Shown, block_of};
 use crate::local::is_calm;
+use crate::losses::can_lose;
 use crate::parts::Task;
 use crate::wanted::{Tell, Wanted, does_suit};
 use crate::ways::{Search, Verdict, Way, Ways, find_ways};
@@ -14,9 +15,13 @@ use engine_one::run_in_order;
 use job_model::End;
 use note_book::Notes;
 use run_report::report;
+use script_grammar::Instruction;
 use script_reader::Script;
 use std::alloc::{AllocError, Global};
 use std::thread::Threads;
+
+/// More turns of a repeat are too many for all states to be looked at.
+const MANY_TURNS: u32 = 1000;
 
 /// What is looked for, and how far.
 #[derive(Clone, Copy)]
@@ -81,10 +86,12 @@ fn ways_found<R: Threads + Sync, G: Gate + Sync, E: Sink>(
     gate: &G,
     errors: &mut E,
 ) -> Result<Ways, Memory> {
+    let calm = is_calm(script);
+    let told = limit.tell == Tell::All || limit.wanted.is_some();
     let task = Task {
         script,
-        calm: is_calm(script),
-        losses: limit.tell == Tell::All || limit.wanted.is_some(),
+        calm,
+        losses: told && (!calm || can_lose(script)),
     };
     let search = Search {
         task,
@@ -112,7 +119,7 @@ fn shown_of<G: Gate>(
     let count = push_blocks(alloc, &mut text, shown, gate, found.ends.as_slice())?;
     let count = push_usual(alloc, &mut text, shown, gate, count)?;
     let verdict = verdict_of(shown.wanted, found.verdict, count);
-    let rest = rest_of(alloc, found, verdict)?;
+    let rest = rest_of(alloc, shown.script, found, verdict)?;
     push_last(alloc, &mut text, count, rest.as_str())?;
     Ok(Explored { verdict, text })
 }
@@ -223,7 +230,12 @@ fn push_count(out: &mut String, count: u64) -> Result<(), AllocError>
 }
 
 /// What the last line says of the search.
-fn rest_of(alloc: Global, found: &Ways, verdict: Verdict) -> Result<String, Memory> {
+fn rest_of(
+    alloc: Global,
+    script: &Script,
+    found: &Ways,
+    verdict: Verdict,
+) -> Result<String, Memory> {
     let mut out = String::new(alloc);
     match verdict {
         Verdict::Exhausted => out.push_str("exhausted")?,
@@ -233,12 +245,41 @@ fn rest_of(alloc: Global, found: &Ways, verdict: Verdict) -> Result<String, Memo
     let states = found.states;
     let turns = found.turns;
     write!(out, ": {states} states, {turns} turns; ")?;
+    if verdict == Verdict::Cut {
+        push_reason(&mut out, script)?;
+    }
     let sampled = found.sampled;
     if sampled > 0 {
         write!(out, "{sampled} by random orders, not shortest; ")?;
     }
     out.push_str("one worker, any order\n")?;
     Ok(out)
+}
+
+/// Adds which coroutine repeats lines so often that its states are too many, if one does.
+fn push_reason(out: &mut String, script: &Script) -> Result<(), AllocError> {
+    let mut most = MANY_TURNS;
+    let mut place = None;
+    for (i, block) in script.blocks().iter().enumerate() {
+        for line in block.code.as_slice() {
+            if let Instruction::Repeat { turns } = *line {
+                if turns > most {
+                    most = turns;
+                    place = Some(i);
+                }
+            }
+        }
+    }
+    let Some(i) = place else {
+        return Ok(());
+    };
+    match script.blocks().get(i) {
+        Some(block) => {
+            let name = block.name.as_str();
+            write!(out, "{name} repeats lines {most} times; ")
+        }
+        None => Ok(()),
+    }
 }
 
 /// The report of the end with this number, counted from 1, of those that are looked for, if there is one. Says how far it is, as

@@ -17,6 +17,7 @@ pub(crate) struct Keys {
     losses: bool,
     /// What the last key was made of, and the key.
     numbers: Vec<u64>,
+    middle: Vec<u64>,
     large: Vec<u64>,
     words: Vec<u64>,
 }
@@ -27,6 +28,7 @@ impl Keys {
             reads: reads_of(alloc, script)?,
             losses,
             numbers: Vec::new(alloc),
+            middle: Vec::new(alloc),
             large: Vec::new(alloc),
             words: Vec::new(alloc),
         })
@@ -44,8 +46,6 @@ impl Keys {
             read_losses(&mut self.large, trial, self.reads.len())?;
             self.numbers.extend_from_slice(self.large.as_slice())?;
         }
-        let count = self.numbers.len() as u64;
-        self.numbers.push(count)?;
         self.pack()
     }
 
@@ -54,14 +54,36 @@ impl Keys {
         self.words.as_slice()
     }
 
-    /// Makes words of the numbers, of which the last is how many there are besides: eight small ones in each word, and behind them those
-    /// that are not small, of which a word has a mark.
+    /// Makes words of the numbers. The first tells how many there are. Sixteen small ones are in each word; behind them are those that are
+    /// not small, eight in each word, and behind these those that are large: of each that follows, what stands for it has a mark.
     fn pack(&mut self) -> Result<(), Memory> {
         self.words.clear();
+        self.middle.clear();
         self.large.clear();
+        let mut word = self.numbers.len() as u64;
+        let mut filled = 8u8;
+        for number in self.numbers.as_slice() {
+            let mut small = *number;
+            if *number > 14 {
+                self.middle.push(*number)?;
+                small = 15;
+            }
+            word = word.wrapping_mul(16) | small;
+            filled = filled.wrapping_add(1);
+            if filled % 16 == 0 {
+                self.words.push(word)?;
+                word = 0;
+            }
+        }
+        self.words.push(word)?;
+        self.pack_middle()
+    }
+
+    /// Adds words for the numbers that are not small.
+    fn pack_middle(&mut self) -> Result<(), Memory> {
         let mut word = 0u64;
         let mut filled = 0u8;
-        for number in self.numbers.as_slice() {
+        for number in self.middle.as_slice() {
             let mut byte = *number;
             if *number > 254 {
                 self.large.push(*number)?;
@@ -74,7 +96,9 @@ impl Keys {
                 word = 0;
             }
         }
-        self.words.push(word)?;
+        if filled % 8 != 0 {
+            self.words.push(word)?;
+        }
         self.words.extend_from_slice(self.large.as_slice())?;
         Ok(())
     }

@@ -1,9 +1,11 @@
 //! What was lost: elements that nobody will receive, and sends that a closed channel refused.
 
-use channel_model::{Act, ChannelNote, Settled};
+use channel_model::{Act, ChannelNote, Kind, Settled};
 use co_base::{ChannelId, Memory, Value, WaitId};
 use engine_one::Trial;
 use note_book::{Item, Notes};
+use script_grammar::Instruction;
+use script_reader::Script;
 
 #[derive(Clone, Copy)]
 struct Loss {
@@ -19,6 +21,30 @@ enum Lost {
     Spurned,
     Refused,
     Withdrawn,
+}
+
+/// Whether a run of the script can lose anything, if no Job of it can be cancelled: a channel drops elements, or one is closed, or a
+/// select sends.
+pub(crate) fn can_lose(script: &Script) -> bool {
+    for channel in script.channels() {
+        if matches!(
+            channel.kind,
+            Kind::Conflated | Kind::DropOldest(_) | Kind::DropLatest(_)
+        ) {
+            return true;
+        }
+    }
+    for block in script.blocks() {
+        for line in block.code.as_slice() {
+            if matches!(
+                *line,
+                Instruction::Close { .. } | Instruction::OnSend { .. }
+            ) {
+                return true;
+            }
+        }
+    }
+    false
 }
 
 /// The losses that the books of so many coroutines tell of, in an order that does not depend on that of the books.

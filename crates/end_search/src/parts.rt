@@ -1,16 +1,17 @@
 //! What one worker finds of some of the states: the polls that do something in each. A worker has a run and keys of its own.
 
-ghost use Rattle.std.specs.Prelude.{OnOk};
+ghost use Rattle.std.specs.Prelude.{IfOk, OnOk};
 ghost use Rattle.script_reader.specs.Scripts.{program_of};
 ghost use Rattle.engine_one.specs.Trials.{TrialStands};
 
-use crate::aheads::{Ahead, Poll};
+use crate::aheads::{Ahead, Found, Poll};
 use crate::keys::Keys;
 use crate::local::is_local;
 use crate::states::{States, hash_of};
+use channel_model::{Act, ChannelNote, Settled};
 use co_base::{Gate, Memory, Tag};
-use engine_one::Trial;
-use note_book::Notes;
+use engine_one::{Polled, Trial};
+use note_book::{Item, Notes};
 use script_reader::Script;
 use std::alloc::Global;
 use std::thread;
@@ -18,6 +19,15 @@ use std::thread::Threads;
 
 /// So few states are looked at by one worker.
 const FEW: u32 = 64;
+
+/// So many states in a row are looked at before their turn, at most.
+const ROW: u32 = 8;
+
+/// So many hashes of new states a worker has in mind. It is a power of two.
+const HASHES: usize = 4096;
+
+/// So many habits of coroutines a worker has in mind. It is a power of two.
+const HABITS: usize = 256;
 
 /// What a worker has to know.
 #[derive(Clone, Copy)]
@@ -52,25 +62,17 @@ impl Span {
     }
 }
 
-/// A poll that does something in a state, where the key of the state stands that it leads to, and what was found of that one, if it was
-/// not seen before.
+/// A poll that does something in a state, where the key stands of the state that it leads to, and where that stands which was found of that
+/// one and of those behind it, whose keys follow its own.
 #[derive(Clone, Copy)]
 pub(crate) struct Reached {
     pub(crate) poll: Poll,
     pub(crate) key: Place,
-    pub(crate) ahead: Option<Found>,
+    found: Place,
+    found_keys: Place,
 }
 
-/// The first poll that does something in a state, if there is one, where the key of the state stands that it leads to, and from which tag
-/// on no poll does anything.
-#[derive(Clone, Copy)]
-pub(crate) struct Found {
-    pub(crate) first: Option<Poll>,
-    pub(crate) key: Place,
-    pub(crate) stuck_from: Tag,
-}
-
-/// Where a key stands among keys.
+/// Where a key stands among keys, or what was found among that of others.
 #[derive(Clone, Copy)]
 pub(crate) struct Place {
     start: usize,
@@ -85,6 +87,8 @@ pub(crate) struct Part {
     polls: Vec<Reached>,
     /// The keys, one behind another.
     keys: Vec<u64>,
+    /// What was found of states that are reached.
+    found: Vec<Found>,
 }
 
 impl Part {
@@ -93,6 +97,7 @@ impl Part {
             ends: Vec::new(alloc),
             polls: Vec::new(alloc),
             keys: Vec::new(alloc),
+            found: Vec::new(alloc),
         }
     }
 
@@ -111,48 +116,60 @@ impl Part {
         self.polls.get(start..end).unwrap_or(&[])
     }
 
-    /// The key that stands there.
-    pub(crate) fn key_at(&self, place: Place) -> &[u64] {
-        self.keys.get(place.start..place.end).unwrap_or(&[])
+    /// The key of the state that a poll leads to.
+    pub(crate) fn key_of(&self, reached: Reached) -> &[u64] {
+        self.keys
+            .get(reached.key.start..reached.key.end)
+            .unwrap_or(&[])
     }
 
-    /// Adds a key.
-    fn add_key(&mut self, key: &[u64]) -> Result<Place, Memory> {
-        let start = self.keys.len();
-        self.keys.extend_from_slice(key)?;
-        Ok(Place {
-            start,
-            end: self.keys.len(),
-        })
+    /// What was found of that state, and of those behind it.
+    pub(crate) fn found_of(&self, reached: Reached) -> &[Found] {
+        self.found
+            .get(reached.found.start..reached.found.end)
+            .unwrap_or(&[])
+    }
+
+    /// The keys of the states that those polls lead to.
+    pub(crate) fn found_keys_of(&self, reached: Reached) -> &[u64] {
+        self.keys
+            .get(reached.found_keys.start..reached.found_keys.end)
+            .unwrap_or(&[])
     }
 
     /// Adds a poll of the state that is looked at.
     fn add(&mut self, poll: Poll, key: &[u64]) -> Result<(), Memory> {
-        let key = self.add_key(key)?;
+        let start = self.keys.len();
+        self.keys.extend_from_slice(key)?;
+        let end = self.keys.len();
+        let found = self.found.len();
         self.polls.push(Reached {
             poll,
-            key,
-            ahead: None,
+            key: Place { start, end },
+            found: Place {
+                start: found,
+                end: found,
+            },
+            found_keys: Place { start: end, end },
         })?;
         Ok(())
     }
 
-    /// Adds what was found of the state that the last poll leads to.
-    fn add_ahead(
-        &mut self,
-        first: Option<Poll>,
-        stuck_from: Tag,
-        key: &[u64],
-    ) -> Result<(), Memory> {
-        let key = self.add_key(key)?;
+    /// Adds what was found behind the last poll.
+    fn add_found(&mut self, found: &[Found], keys: &[u64]) -> Result<(), Memory> {
+        self.found.extend_from_slice(found)?;
+        self.keys.extend_from_slice(keys)?;
         if let Some(last) = self.polls.last_mut() {
-            last.ahead = Some(Found {
-                first,
-                key,
-                stuck_from,
-            });
+            last.found.end = self.found.len();
+            last.found_keys.end = self.keys.len();
         }
         Ok(())
+    }
+
+    /// Adds the poll that was found of a state, and what was found behind it.
+    fn add_ahead(&mut self, poll: Poll, ahead: &Ahead) -> Result<(), Memory> {
+        self.add(poll, ahead.first_key())?;
+        self.add_found(ahead.rest(), ahead.rest_keys())
     }
 
     /// All polls of the state that is looked at were added.
@@ -166,6 +183,7 @@ impl Part {
         let before = self.ends.last().copied().unwrap_or(0);
         if let Some(first) = self.polls.get(before).copied() {
             self.keys.truncate(first.key.start);
+            self.found.truncate(first.found.start);
         }
         self.polls.truncate(before);
     }
@@ -176,6 +194,36 @@ impl Part {
 struct Desk {
     trial: Trial<Notes>,
     keys: Keys,
+    /// At the place that a hash names, one of a state that was new.
+    hashes: Vec<u64>,
+    /// At the place that a coroutine and its last note name, whether the poll behind such a note did not suffice, when it was made last.
+    habits: Vec<bool>,
+}
+
+impl Desk {
+    fn new(alloc: Global, task: Task) -> Result<Desk, Memory>
+        ensures { IfOk result (λ desk. TrialStands (program_of task.entry.script.now) desk.trial) }
+    {
+        Ok(Desk {
+            trial: Trial::new(alloc, task.script)?,
+            keys: Keys::new(alloc, task.script, task.losses)?,
+            hashes: vec![in alloc; 0u64; HASHES]?,
+            habits: vec![in alloc; false; HABITS]?,
+        })
+    }
+}
+
+/// Whether the state with this hash was none of those new ones that are in mind. It is one of them then.
+fn is_first(hashes: &mut Vec<u64>, hash: u64) -> bool {
+    let place = hash as usize & hashes.len().saturating_sub(1);
+    match hashes.get_mut(place) {
+        Some(here) => {
+            let is_first = *here != hash;
+            *here = hash;
+            is_first
+        }
+        None => true,
+    }
 }
 
 /// The parts of these states, in their order, found by so many workers side by side.
@@ -220,10 +268,7 @@ fn part_of<G: Gate>(
     span: Span,
 ) -> Result<Part, Memory> {
     let mut part = Part::new(alloc);
-    let mut desk = Desk {
-        trial: Trial::new(alloc, task.script)?,
-        keys: Keys::new(alloc, task.script, task.losses)?,
-    };
+    let mut desk = Desk::new(alloc, task)?;
     let mut order = Vec::new(alloc);
     let mut place = 0;
     for state in span.from..span.to {
@@ -249,6 +294,16 @@ struct Around<'a> {
     ahead: Option<&'a Ahead>,
 }
 
+impl Around<'_> {
+    /// What was found of the state itself, if it was.
+    fn found(self) -> Option<Found> {
+        match self.ahead {
+            Some(ahead) => ahead.first(),
+            None => None,
+        }
+    }
+}
+
 /// Adds the polls that do something behind this order; or one of them alone, if that suffices.
 fn add_polls<G: Gate>(
     alloc: Global,
@@ -261,33 +316,69 @@ fn add_polls<G: Gate>(
     requires { TrialStands (program_of around.task.script.now) desk.old.trial }
     ensures { OnOk result (TrialStands (program_of around.entry.task.script.now) desk.new.trial) }
 {
-    let Some(ahead) = around.ahead else {
+    let Some(found) = around.found() else {
         desk.trial.go_to(alloc, around.task.script, gate, order)?;
         let end = desk.trial.stuck_from();
-        return add_polls_from(alloc, around, gate, desk, part, order, 0, end);
+        return add_polls_among(alloc, around, gate, desk, part, order, None, end);
     };
-    let Some(first) = ahead.first else {
+    let Some(poll) = found.poll else {
         return Ok(());
     };
-    part.add(first, ahead.key.as_slice())?;
-    if first.local {
-        return Ok(());
+    if poll.local {
+        return add_known(around, part, poll);
     }
-    let from = first.tag.saturating_add(1);
-    add_polls_from(
-        alloc,
-        around,
-        gate,
-        desk,
-        part,
-        order,
-        from,
-        ahead.stuck_from,
-    )
+    let end = found.stuck_from.max(poll.tag.saturating_add(1));
+    add_polls_among(alloc, around, gate, desk, part, order, Some(poll), end)
 }
 
-/// The same of those from one tag on up to another.
-fn add_polls_from<G: Gate>(
+/// Adds the poll that was found of the state, and what was found behind it.
+fn add_known(around: Around, part: &mut Part, poll: Poll) -> Result<(), Memory> {
+    match around.ahead {
+        Some(ahead) => part.add_ahead(poll, ahead),
+        None => Ok(()),
+    }
+}
+
+/// The same of those up to a tag, of which one may be known.
+fn add_polls_among<G: Gate>(
+    alloc: Global,
+    around: Around,
+    gate: &G,
+    desk: &mut Desk,
+    part: &mut Part,
+    order: &[Tag],
+    known: Option<Poll>,
+    end: Tag,
+) -> Result<(), Memory>
+    requires { TrialStands (program_of around.task.script.now) desk.old.trial }
+    ensures { OnOk result (TrialStands (program_of around.entry.task.script.now) desk.new.trial) }
+{
+    let mut from = 0;
+    let mut known = known;
+    'polls: for _ in 0..around.task.script.coroutines().saturating_add(2) {
+        let until = match known {
+            Some(poll) => poll.tag,
+            None => end,
+        };
+        if let Some(poll) = add_next(alloc, around, gate, desk, part, order, from, until)? {
+            if poll.local {
+                return Ok(());
+            }
+            from = poll.tag.saturating_add(1);
+            continue;
+        }
+        let Some(poll) = known else {
+            return Ok(());
+        };
+        add_known(around, part, poll)?;
+        from = poll.tag.saturating_add(1);
+        known = None;
+    }
+    Ok(())
+}
+
+/// Adds the first poll of these tags behind this order that does something, if there is one; if that suffices, it alone.
+fn add_next<G: Gate>(
     alloc: Global,
     around: Around,
     gate: &G,
@@ -295,73 +386,172 @@ fn add_polls_from<G: Gate>(
     part: &mut Part,
     order: &[Tag],
     from: Tag,
-    end: Tag,
-) -> Result<(), Memory>
+    until: Tag,
+) -> Result<Option<Poll>, Memory>
     requires { TrialStands (program_of around.task.script.now) desk.old.trial }
     ensures { OnOk result (TrialStands (program_of around.entry.task.script.now) desk.new.trial) }
 {
-    let mut from = from;
-    'polls: for _ in 0..around.task.script.coroutines() {
-        if from >= end {
-            return Ok(());
-        }
-        desk.trial.go_to(alloc, around.task.script, gate, order)?;
-        let Some(poll) = add_first(around, gate, desk, part, from)? else {
-            return Ok(());
-        };
-        if poll.local {
-            return Ok(());
-        }
-        from = poll.tag.saturating_add(1);
+    if from >= until {
+        return Ok(None);
     }
-    Ok(())
+    desk.trial.go_to(alloc, around.task.script, gate, order)?;
+    add_first(around, gate, desk, part, from, until)
 }
 
-/// Adds the first poll from this tag on that does something, if there is one; if that suffices, it alone.
+/// The same where the run is.
 fn add_first<G: Gate>(
     around: Around,
     gate: &G,
     desk: &mut Desk,
     part: &mut Part,
     from: Tag,
+    until: Tag,
 ) -> Result<Option<Poll>, Memory>
     requires { TrialStands (program_of around.task.script.now) desk.old.trial }
     ensures { OnOk result (TrialStands (program_of around.entry.task.script.now) desk.new.trial) }
 {
-    let Some(poll) = first_poll(around.task, gate, desk, from)? else {
+    let Some(polled) = first_among(around.task, gate, desk, from, until)? else {
         return Ok(None);
     };
+    let poll = poll_made(around.task, desk, polled)?;
     if poll.local {
         part.take_back();
     }
     part.add(poll, desk.keys.last())?;
-    if !around.states.has(poll.hash, desk.keys.last()) {
-        let stuck_from = desk.trial.stuck_from();
-        match first_poll(around.task, gate, desk, 0)? {
-            Some(first) => part.add_ahead(Some(first), stuck_from, desk.keys.last())?,
-            None => part.add_ahead(None, stuck_from, &[])?,
-        }
-    }
+    look_ahead(around, gate, desk, part, poll)?;
     Ok(Some(poll))
 }
 
-/// Makes the first poll from this tag on that does something, and the key of the state that it leads to.
-fn first_poll<G: Gate>(
+/// The first poll of these tags that does something, if there is one.
+fn first_among<G: Gate>(
     task: Task,
     gate: &G,
     desk: &mut Desk,
     from: Tag,
-) -> Result<Option<Poll>, Memory>
+    until: Tag,
+) -> Result<Option<Polled>, Memory>
     requires { TrialStands (program_of task.script.now) desk.old.trial }
     ensures { OnOk result (TrialStands (program_of task.entry.script.now) desk.new.trial) }
 {
-    let Some(polled) = desk.trial.first_that_moves(task.script, gate, from)? else {
-        return Ok(None);
-    };
+    for tag in from..until {
+        if let Some(polled) = desk.trial.poll(task.script, gate, tag)? {
+            return Ok(Some(polled));
+        }
+    }
+    Ok(None)
+}
+
+/// The poll that was made last, and the key of the state that it led to.
+fn poll_made(task: Task, desk: &mut Desk, polled: Polled) -> Result<Poll, Memory>
+    requires { TrialStands (program_of task.script.now) desk.old.trial }
+    ensures { OnOk result (TrialStands (program_of task.entry.script.now) desk.new.trial) }
+{
     desk.keys.make(&desk.trial)?;
-    Ok(Some(Poll {
+    Ok(Poll {
         tag: polled.tag,
         local: is_local(task.script, task.calm, polled),
         hash: hash_of(desk.keys.last()),
-    }))
+    })
+}
+
+/// Looks at the state that this poll led to, if it is new; and on, as long as one poll suffices and leads to a state that is new.
+fn look_ahead<G: Gate>(
+    around: Around,
+    gate: &G,
+    desk: &mut Desk,
+    part: &mut Part,
+    poll: Poll,
+) -> Result<(), Memory>
+    requires { TrialStands (program_of around.task.script.now) desk.old.trial }
+    ensures { OnOk result (TrialStands (program_of around.entry.task.script.now) desk.new.trial) }
+{
+    if !is_first(&mut desk.hashes, poll.hash) {
+        return Ok(());
+    }
+    let mut before = poll;
+    'states: for _ in 0..ROW {
+        if around.states.has(before.hash, desk.keys.last()) {
+            return Ok(());
+        }
+        let stuck_from = desk.trial.stuck_from();
+        let Some(polled) = poll_behind(around.task, gate, desk, before)? else {
+            let none = Found {
+                poll: None,
+                words: 0,
+                stuck_from,
+            };
+            return part.add_found(&[none], &[]);
+        };
+        let poll = poll_made(around.task, desk, polled)?;
+        let found = Found {
+            poll: Some(poll),
+            words: desk.keys.last().len(),
+            stuck_from,
+        };
+        part.add_found(&[found], desk.keys.last())?;
+        if !poll.local {
+            return Ok(());
+        }
+        before = poll;
+    }
+    Ok(())
+}
+
+/// A poll that does something in the state that this poll led to, if there is one.
+///
+/// The same coroutine goes first where it may be the one that suffices. No other of a lower tag suffices then, too: the state before had
+/// none, and only a poll with a note of a Job can make one of another coroutine.
+fn poll_behind<G: Gate>(
+    task: Task,
+    gate: &G,
+    desk: &mut Desk,
+    before: Poll,
+) -> Result<Option<Polled>, Memory>
+    requires { TrialStands (program_of task.script.now) desk.old.trial }
+    ensures { OnOk result (TrialStands (program_of task.entry.script.now) desk.new.trial) }
+{
+    if let Some(habit) = habit_of(desk, before) {
+        if let Some(polled) = desk.trial.poll(task.script, gate, before.tag)? {
+            if let Some(here) = desk.habits.get_mut(habit) {
+                *here = !is_local(task.script, task.calm, polled);
+            }
+            return Ok(Some(polled));
+        }
+    }
+    desk.trial.first_that_moves(task.script, gate, 0)
+}
+
+/// The place of the habit of the coroutine that made this poll, if it may be the one whose next poll suffices.
+fn habit_of(desk: &Desk, before: Poll) -> Option<usize> {
+    if before.local {
+        return None;
+    }
+    let tag = before.tag as usize;
+    let note = last_note(desk.trial.book(tag))?;
+    let place = tag.wrapping_mul(8).wrapping_add(note) & HABITS.saturating_sub(1);
+    match desk.habits.get(place) {
+        Some(false) => Some(place),
+        _ => None,
+    }
+}
+
+/// What the last note of a book is: 0 to 5. Nothing, if it is one of a Job.
+fn last_note(book: Option<&Notes>) -> Option<usize> {
+    match book?.items().last() {
+        Some(Item::Job(_)) => None,
+        Some(Item::Channel(ChannelNote::Made(act))) => match *act {
+            Act::Hand { .. } | Act::Put { .. } => Some(1),
+            Act::Take { .. } | Act::Admit { .. } => Some(2),
+            Act::Settle {
+                outcome: Settled::Value(_, _),
+                ..
+            } => Some(3),
+            Act::Settle {
+                outcome: Settled::Sent(_),
+                ..
+            } => Some(4),
+            _ => Some(5),
+        },
+        _ => Some(0),
+    }
 }

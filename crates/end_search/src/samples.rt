@@ -7,11 +7,15 @@ ghost use Rattle.engine_one.specs.Trials.{TrialStands};
 use co_base::{Gate, Memory, Tag};
 use engine_one::Trial;
 use note_book::Notes;
+use script_grammar::Instruction;
 use script_reader::Script;
 use std::alloc::Global;
 
-/// How many such runs are made.
-pub(crate) const RUNS: u32 = 40;
+/// How many such runs are made, at most.
+const RUNS: u32 = 40;
+
+/// So often the lines that are repeated most are made in all runs together, if each run makes them less often than a quarter of it.
+const MANY_TURNS: u64 = 20000000;
 
 /// How many polls of an order there are for each coroutine.
 const POLLS: u64 = 32;
@@ -37,6 +41,38 @@ impl Numbers {
             .wrapping_add(1442695040888963407);
         (self.state >> 33).checked_rem(below).unwrap_or(0)
     }
+}
+
+/// How many runs in random orders are made: fewer, where lines are repeated so often that a run is long.
+pub(crate) fn runs_of(alloc: Global, script: &Script) -> Result<u32, Memory> {
+    let mut turns = 0u64;
+    for block in script.blocks() {
+        turns = turns.saturating_add(turns_of(alloc, block.code.as_slice())?);
+    }
+    let runs = MANY_TURNS.checked_div(turns).unwrap_or(0).max(4);
+    Ok(u32::try_from(runs).ok().unwrap_or(RUNS).min(RUNS))
+}
+
+/// How often the line of a block is made that is repeated most.
+fn turns_of(alloc: Global, code: &[Instruction]) -> Result<u64, Memory> {
+    let mut most = 1u64;
+    let mut now = 1u64;
+    let mut around = Vec::new(alloc);
+    for line in code {
+        match *line {
+            Instruction::Repeat { turns } => {
+                around.push(now)?;
+                now = now.saturating_mul(u64::from(turns));
+            }
+            Instruction::Each { .. } | Instruction::Scope { .. } | Instruction::Select => {
+                around.push(now)?;
+            }
+            Instruction::End => now = around.pop().unwrap_or(1),
+            _ => {}
+        }
+        most = most.max(now);
+    }
+    Ok(most)
 }
 
 /// The polls that do something among many of coroutines that are taken at random, each once or, in long spells, many times.

@@ -8,7 +8,7 @@ ghost use Rattle.script_reader.specs.Scripts.{program_of};
 ghost use Rattle.engine_one.specs.Trials.{TrialStands};
 
 use crate::parts::{Part, Reached, Span, Task, parts_of};
-use crate::samples::{Numbers, RUNS, random_order};
+use crate::samples::{Numbers, random_order, runs_of};
 use crate::states::States;
 use crate::wanted::{Tell, Told, Wanted, told_of};
 use co_base::{Gate, Memory, Sink, Tag, write_all};
@@ -198,17 +198,14 @@ fn add_part<G: Gate, E: Sink>(
 /// Adds the state that a poll in this state leads to, if it is new, and what was found of it.
 fn add_state(states: &mut States, state: u32, part: &Part, reached: Reached) -> Result<(), Memory> {
     let poll = reached.poll;
-    let key = part.key_at(reached.key);
+    let key = part.key_of(reached);
     let Some(number) = states.add(state, poll.tag, poll.hash, key)? else {
         return Ok(());
     };
-    if let Some(found) = reached.ahead {
-        let key = part.key_at(found.key);
-        states
-            .aheads
-            .keep(number, found.first, found.stuck_from, key)?;
-    }
-    Ok(())
+    let found = part.found_of(reached);
+    states
+        .aheads
+        .keep(number, found, part.found_keys_of(reached))
 }
 
 /// Says how far the search is. If that cannot be written, it is not said.
@@ -255,7 +252,8 @@ fn sample<G: Gate>(
     let mut trial = Trial::new(alloc, script)?;
     push_end(alloc, search, gate, course, Vec::new(alloc))?;
     let mut numbers = Numbers::new();
-    for run in 0..RUNS {
+    let runs = runs_of(alloc, script)?;
+    for run in 0..runs {
         if course.ends.len() >= search.ends {
             return Ok(true);
         }
