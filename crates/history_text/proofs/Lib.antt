@@ -1,4 +1,5 @@
 mod LineLoops
 pub mod Parts
+pub mod Places
 mod Waits
 mod WordCounts

@@ -1,4 +1,5 @@
 pub mod Words
+pub mod Names
 pub mod Items
 pub mod JobItems
 pub mod Lines

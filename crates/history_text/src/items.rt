@@ -1,10 +1,12 @@
 //! Which words are which item.
 
-ghost use Rattle.std.specs.Prelude.{◌≡◌, ◌≤◌, length};
+ghost use Rattle.std.specs.Prelude.{◌≡◌};
 ghost use Rattle.report_reader.specs.Words.{texts};
+ghost use Rattle.history_text.specs.Names.{AreNames, listed};
 ghost use Rattle.history_text.specs.Items.{await_by, ended_alone, ended_by, ended_with, ended_with_both, item_by, late_by, of_channel, of_number, of_numbers, offer_by, plain_by, resolved_by, settle_by, withdraw_by};
 
-use crate::words::{channel_at, clause_at, wait_at};
+use crate::names::{Names, channel_at};
+use crate::words::{clause_at, wait_at};
 use channel_model::{Act, ChannelNote, Settled, Why};
 use co_base::{ChannelId, Value};
 use report_reader::value_of;
@@ -86,9 +88,9 @@ fn of_numbers(verb: &[u8], c: ChannelId, n: u32, value: Value) -> Option<Channel
 }
 
 /// The item of a verb with a channel and at most two numbers.
-fn plain_by(names: &[&[u8]], verb: &[u8], words: &[&[u8]]) -> Option<ChannelNote>
-    requires { length names.now ≤ 65536 }
-    ensures { result ≡ plain_by (texts names.now) verb.now (texts words.now) }
+fn plain_by(names: &Names, verb: &[u8], words: &[&[u8]]) -> Option<ChannelNote>
+    requires { AreNames names.now }
+    ensures { result ≡ plain_by (listed names.now) verb.now (texts words.now) }
 {
     match words {
         [c] => of_channel(verb, channel_at(names, *c)?),
@@ -100,9 +102,9 @@ fn plain_by(names: &[&[u8]], verb: &[u8], words: &[&[u8]]) -> Option<ChannelNote
 
 // ---- items of a wait
 
-fn offer_by(names: &[&[u8]], words: &[&[u8]]) -> Option<ChannelNote>
-    requires { length names.now ≤ 65536 }
-    ensures { result ≡ offer_by (texts names.now) (texts words.now) }
+fn offer_by(names: &Names, words: &[&[u8]]) -> Option<ChannelNote>
+    requires { AreNames names.now }
+    ensures { result ≡ offer_by (listed names.now) (texts words.now) }
 {
     let [c, place, value, main, clause] = words else {
         return None;
@@ -121,9 +123,9 @@ fn offer_by(names: &[&[u8]], words: &[&[u8]]) -> Option<ChannelNote>
     }))
 }
 
-fn await_by(names: &[&[u8]], words: &[&[u8]]) -> Option<ChannelNote>
-    requires { length names.now ≤ 65536 }
-    ensures { result ≡ await_by (texts names.now) (texts words.now) }
+fn await_by(names: &Names, words: &[&[u8]]) -> Option<ChannelNote>
+    requires { AreNames names.now }
+    ensures { result ≡ await_by (listed names.now) (texts words.now) }
 {
     let [c, place, main, clause] = words else {
         return None;
@@ -140,9 +142,9 @@ fn await_by(names: &[&[u8]], words: &[&[u8]]) -> Option<ChannelNote>
     }))
 }
 
-fn withdraw_by(names: &[&[u8]], words: &[&[u8]]) -> Option<ChannelNote>
-    requires { length names.now ≤ 65536 }
-    ensures { result ≡ withdraw_by (texts names.now) (texts words.now) }
+fn withdraw_by(names: &Names, words: &[&[u8]]) -> Option<ChannelNote>
+    requires { AreNames names.now }
+    ensures { result ≡ withdraw_by (listed names.now) (texts words.now) }
 {
     let [w, reason] = words else {
         return None;
@@ -207,9 +209,9 @@ fn ended_by(words: &[&[u8]]) -> Option<Settled>
     }
 }
 
-fn settle_by(names: &[&[u8]], words: &[&[u8]]) -> Option<ChannelNote>
-    requires { length names.now ≤ 65536 }
-    ensures { result ≡ settle_by (texts names.now) (texts words.now) }
+fn settle_by(names: &Names, words: &[&[u8]]) -> Option<ChannelNote>
+    requires { AreNames names.now }
+    ensures { result ≡ settle_by (listed names.now) (texts words.now) }
 {
     let [w, how @ ..] = words else {
         return None;
@@ -219,9 +221,9 @@ fn settle_by(names: &[&[u8]], words: &[&[u8]]) -> Option<ChannelNote>
     Some(ChannelNote::Made(Act::Settle { w, outcome }))
 }
 
-fn resolved_by(names: &[&[u8]], words: &[&[u8]]) -> Option<ChannelNote>
-    requires { length names.now ≤ 65536 }
-    ensures { result ≡ resolved_by (texts names.now) (texts words.now) }
+fn resolved_by(names: &Names, words: &[&[u8]]) -> Option<ChannelNote>
+    requires { AreNames names.now }
+    ensures { result ≡ resolved_by (listed names.now) (texts words.now) }
 {
     let [w] = words else {
         return None;
@@ -230,9 +232,9 @@ fn resolved_by(names: &[&[u8]], words: &[&[u8]]) -> Option<ChannelNote>
     Some(ChannelNote::MainResolved { w })
 }
 
-fn late_by(names: &[&[u8]], words: &[&[u8]]) -> Option<ChannelNote>
-    requires { length names.now ≤ 65536 }
-    ensures { result ≡ late_by (texts names.now) (texts words.now) }
+fn late_by(names: &Names, words: &[&[u8]]) -> Option<ChannelNote>
+    requires { AreNames names.now }
+    ensures { result ≡ late_by (listed names.now) (texts words.now) }
 {
     let [w] = words else {
         return None;
@@ -245,9 +247,9 @@ fn late_by(names: &[&[u8]], words: &[&[u8]]) -> Option<ChannelNote>
 
 /// The item that a verb and the words behind it are.
 #[tactic(auto, unfolding(crate::specs::Items::item_by))]
-pub(crate) fn item_by(names: &[&[u8]], verb: &[u8], words: &[&[u8]]) -> Option<ChannelNote>
-    requires { length names.now ≤ 65536 }
-    ensures { result ≡ item_by (texts names.now) verb.now (texts words.now) }
+pub(crate) fn item_by(names: &Names, verb: &[u8], words: &[&[u8]]) -> Option<ChannelNote>
+    requires { AreNames names.now }
+    ensures { result ≡ item_by (listed names.now) verb.now (texts words.now) }
 {
     if verb == b"offer".as_slice() {
         offer_by(names, words)

@@ -2,6 +2,7 @@
 //! and scopes there are, and then a line for each item that a coroutine noted, in one order of all of them, as a report writes it.
 //!
 //! - `line`: a line of a history.
+//! - `names`: the names of channels, and where each stands.
 //! - `words`: channels, waits, rows and numbers in a line.
 //! - `items`: which words are which item of a channel; `job_items`: of a Job.
 //! - `lines`: the lines of a history.
@@ -15,6 +16,7 @@ mod job_items;
 mod job_numbers;
 mod line;
 mod lines;
+mod names;
 mod numbers;
 mod words;
 

@@ -5,11 +5,13 @@ ghost use Rattle.report_reader.specs.Words.{lines_of, texts, without_last_feed};
 ghost use Rattle.history_text.specs.Inputs.{GivesLines, LeavesAt, LeavesLine};
 ghost use Rattle.history_text.specs.Items.{item_by};
 ghost use Rattle.history_text.specs.JobItems.{job_item_by};
+ghost use Rattle.history_text.specs.Names.{AreNames, listed};
 ghost use Rattle.history_text.specs.Lines.{either_item, history_of, line_by, line_of, lines_from};
 
 use crate::items::item_by;
 use crate::job_items::job_item_by;
 use crate::line::Line;
+use crate::names::{Names, names_of};
 use crate::words::tag_at;
 use note_book::Item;
 use report_reader::{cut_at, words_of};
@@ -25,9 +27,9 @@ pub enum NoLines {
 }
 
 /// The item that a verb and the words behind it are, of a channel or of a Job.
-fn either_item(names: &[&[u8]], verb: &[u8], words: &[&[u8]]) -> Option<Item>
-    requires { length names.now ≤ 65536 }
-    ensures { result ≡ either_item (item_by (texts names.now) verb.now (texts words.now)) (job_item_by verb.now (texts words.now)) }
+fn either_item(names: &Names, verb: &[u8], words: &[&[u8]]) -> Option<Item>
+    requires { AreNames names.now }
+    ensures { result ≡ either_item (item_by (listed names.now) verb.now (texts words.now)) (job_item_by verb.now (texts words.now)) }
 {
     match item_by(names, verb, words) {
         Some(note) => Some(Item::Channel(note)),
@@ -39,9 +41,9 @@ fn either_item(names: &[&[u8]], verb: &[u8], words: &[&[u8]]) -> Option<Item>
 }
 
 /// The line that these words are.
-fn line_by(names: &[&[u8]], words: &[&[u8]]) -> Option<Line>
-    requires { length names.now ≤ 65536 }
-    ensures { result ≡ line_by (texts names.now) (texts words.now) }
+fn line_by(names: &Names, words: &[&[u8]]) -> Option<Line>
+    requires { AreNames names.now }
+    ensures { result ≡ line_by (listed names.now) (texts words.now) }
 {
     let [tag, verb, rest @ ..] = words else {
         return None;
@@ -53,12 +55,12 @@ fn line_by(names: &[&[u8]], words: &[&[u8]]) -> Option<Line>
 
 /// The line of a text without line feeds. The vector is a place for its words.
 fn line_of<'a>(
-    names: &[&[u8]],
+    names: &Names,
     words: &mut Vec<&'a [u8]>,
     text: &'a [u8],
 ) -> Result<Option<Line>, AllocError>
-    requires { length names.now ≤ 65536 }
-    ensures { IfOk result (λ line. line ≡ line_of (texts names.now) text.now) }
+    requires { AreNames names.now }
+    ensures { IfOk result (λ line. line ≡ line_of (listed names.now) text.now) }
 {
     words_of(words, text)?;
     Ok(line_by(names, words.as_slice()))
@@ -78,13 +80,13 @@ fn trimmed(text: &[u8]) -> &[u8]
 
 /// Reads one line more.
 fn read_line<'a>(
-    names: &[&[u8]],
+    names: &Names,
     words: &mut Vec<&'a [u8]>,
     lines: &mut Vec<Line>,
     text: &'a [u8],
 ) -> Result<bool, AllocError>
-    requires { length names.now ≤ 65536 }
-    ensures { IfOk result (λ good. LeavesLine good lines.old.items lines.new.items (line_of (texts names.now) text.now)) }
+    requires { AreNames names.now }
+    ensures { IfOk result (λ good. LeavesLine good lines.old.items lines.new.items (line_of (listed names.now) text.now)) }
 {
     let Some(line) = line_of(names, words, text)? else {
         return Ok(false);
@@ -95,14 +97,14 @@ fn read_line<'a>(
 
 /// Reads one line more, which has this number.
 fn read_numbered<'a>(
-    names: &[&[u8]],
+    names: &Names,
     words: &mut Vec<&'a [u8]>,
     lines: &mut Vec<Line>,
     text: &'a [u8],
     number: u32,
 ) -> Result<(), NoLines>
-    requires { length names.now ≤ 65536 }
-    ensures { LeavesAt number result lines.old.items lines.new.items (line_of (texts names.now) text.now) }
+    requires { AreNames names.now }
+    ensures { LeavesAt number result lines.old.items lines.new.items (line_of (listed names.now) text.now) }
 {
     match read_line(names, words, lines, text) {
         Ok(true) => Ok(()),
@@ -112,10 +114,10 @@ fn read_numbered<'a>(
 }
 
 /// The lines of a text that has some.
-fn some_lines(alloc: Global, names: &[&[u8]], text: &[u8]) -> Result<Vec<Line>, NoLines>
-    requires few { length names.now ≤ 65536 }
+fn some_lines(alloc: Global, names: &Names, text: &[u8]) -> Result<Vec<Line>, NoLines>
+    requires names { AreNames names.now }
     requires short { length text.now ≤ 67108864 }
-    ensures { GivesLines result (lines_from (texts names.now) 1 [] (lines_of text.now)) }
+    ensures { GivesLines result (lines_from (listed names.now) 1 [] (lines_of text.now)) }
 {
     let mut lines = Vec::new(alloc);
     let mut words = Vec::new(alloc);
@@ -143,5 +145,5 @@ pub fn lines_in(alloc: Global, names: &[&[u8]], text: &[u8]) -> Result<Vec<Line>
     if text.is_empty() {
         return Ok(Vec::new(alloc));
     }
-    some_lines(alloc, names, text)
+    some_lines(alloc, &names_of(names), text)
 }

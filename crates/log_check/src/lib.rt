@@ -8,7 +8,10 @@
 //! - `same`: whether two notes are the same.
 //! - `books`: the books that the lines of a log are.
 //! - `verdict`: what is said of an input.
-//! - `places`: what the notes of a run say of places, channels and rows.
+//! - `plan`: what the lines of a report say of the whole run.
+//! - `sleepers`: who is not worth a poll before something happens.
+//! - `queues`: what stands in the channels of a run; `rows`: how far its Jobs are.
+//! - `scene`: which line may come next.
 //! - `walk`: the search for an order of polls.
 //! - `way`: the order in which a run writes given lines.
 //! - `log`: a log, judged; `report`: a report, judged.
@@ -20,9 +23,13 @@ mod input;
 mod log;
 mod names;
 mod parts;
-mod places;
+mod plan;
+mod queues;
 mod report;
+mod rows;
 mod same;
+mod scene;
+mod sleepers;
 mod verdict;
 mod walk;
 mod way;

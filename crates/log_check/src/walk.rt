@@ -4,8 +4,9 @@ ghost use Rattle.std.specs.Prelude.{OnOk};
 ghost use Rattle.script_reader.specs.Scripts.{program_of};
 ghost use Rattle.engine_one.specs.Trials.{TrialStands};
 
-use crate::places::Places;
+use crate::plan::Plan;
 use crate::same::same_item;
+use crate::scene::{Rank, Scene, View};
 use co_base::{Gate, Memory, Tag};
 use engine_one::Trial;
 use history_text::Line;
@@ -19,18 +20,34 @@ use std::collections::HashSet;
 pub(crate) struct Wanted<'a> {
     pub(crate) script: &'a Script,
     pub(crate) lines: &'a [Line],
+    pub(crate) plan: &'a Plan,
     /// Whether they are to be written in their order; else in that of each coroutine.
     pub(crate) ordered: bool,
     /// In which order coroutines are tried.
     pub(crate) attempt: u32,
 }
 
+impl Wanted<'_> {
+    /// Whether who was woken is tried first.
+    fn follows_wakes(self) -> bool {
+        !self.ordered && self.attempt < 2
+    }
+}
+
+impl<'a> Wanted<'a> {
+    fn view(self, trial: &'a Trial<Notes>) -> View<'a> {
+        View {
+            plan: self.plan,
+            lines: self.lines,
+            trial,
+        }
+    }
+}
+
 /// What a run on its way has written, and what is left to be tried at each of its polls.
 #[derive(Drop)]
 pub(crate) struct Path {
-    places: Places,
-    /// Of each coroutine where its lines stand.
-    own: Vec<Vec<u32>>,
+    scene: Scene,
     /// Behind each poll the number of the next choice.
     choices: Vec<u32>,
     /// Before each poll how many lines were written.
@@ -38,6 +55,8 @@ pub(crate) struct Path {
     pub(crate) done: usize,
     /// How many polls were made.
     pub(crate) polls: u64,
+    /// Whether a poll was ever taken back; from then on each state is visited once.
+    turned_back: bool,
     seen: HashSet<u64>,
     numbers: Vec<u64>,
     /// The most lines that were written, and the number of a line that could not be written then.
@@ -76,18 +95,15 @@ impl Path {
     }
 
     fn new(alloc: Global, wanted: Wanted) -> Result<Path, Memory> {
-        let script = wanted.script;
-        let rows = script.jobs() as usize;
-        let channels = script.channels().len().saturating_add(rows);
         let mut choices = Vec::new(alloc);
         choices.push(0)?;
         Ok(Path {
-            own: own_of(alloc, script.coroutines(), wanted.lines)?,
-            places: Places::new(alloc, channels, rows)?,
+            scene: Scene::new(alloc, wanted.plan, wanted.script, wanted.lines)?,
             choices,
             marks: Vec::new(alloc),
             done: 0,
             polls: 0,
+            turned_back: false,
             seen: HashSet::new(alloc),
             numbers: Vec::new(alloc),
             most: 0,
@@ -95,38 +111,65 @@ impl Path {
         })
     }
 
-    /// Where the line of a coroutine stands that has this number among its own.
-    fn own_line(&self, tag: Tag, number: usize) -> Option<usize> {
-        let own = self.own.get(tag as usize)?;
-        let at = own.get(number).copied()?;
-        Some(at as usize)
-    }
-
-    /// The number of the next choice, if one is left.
-    fn next_choice(&mut self, wanted: Wanted) -> Option<u32> {
-        let last = self.choices.last_mut()?;
-        let choice = *last;
-        if choice > u32::from(wanted.script.coroutines()) {
-            return None;
-        }
-        *last = choice.saturating_add(1);
-        Some(choice)
-    }
-
-    /// The coroutine of a choice, if it may be polled.
-    fn tag_of(&self, wanted: Wanted, trial: &Trial<Notes>, choice: u32) -> Option<Tag> {
-        if wanted.ordered {
-            let next = wanted.lines.get(self.done)?.who;
-            if choice == 0 {
-                return Some(next);
+    /// The coroutine that is to be polled next, if one is left that was not tried here.
+    fn next_tag(&mut self, wanted: Wanted, trial: &Trial<Notes>) -> Option<Tag> {
+        if wanted.follows_wakes() {
+            let awake = self.scene.next_awake(wanted.view(trial));
+            if awake.is_some() {
+                return awake;
             }
-            let tag = Tag::try_from(choice.saturating_sub(1)).ok()?;
-            return if tag == next { None } else { Some(tag) };
         }
-        let tag = self.turned(wanted, trial, choice)?;
-        let at = self.own_line(tag, written_by(trial, tag))?;
-        let item = wanted.lines.get(at)?.item;
-        if self.places.may_come(trial, item) {
+        let first = *self.choices.last()?;
+        let count = u32::from(wanted.script.coroutines());
+        let most = if wanted.ordered {
+            count.saturating_add(1)
+        } else {
+            count.saturating_mul(4)
+        };
+        let mut found = None;
+        let mut tried = most;
+        for choice in first..most {
+            found = if wanted.ordered {
+                self.tag_of_log(wanted, choice)
+            } else {
+                self.tag_of_report(wanted, trial, choice)
+            };
+            if found.is_some() {
+                tried = choice.saturating_add(1);
+                break;
+            }
+        }
+        if let Some(last) = self.choices.last_mut() {
+            *last = tried;
+        }
+        found
+    }
+
+    /// The coroutine of a choice: that of the next line, and then any other.
+    fn tag_of_log(&self, wanted: Wanted, choice: u32) -> Option<Tag> {
+        let next = wanted.lines.get(self.done)?.who;
+        if choice == 0 {
+            return Some(next);
+        }
+        let tag = Tag::try_from(choice.saturating_sub(1)).ok()?;
+        if tag == next { None } else { Some(tag) }
+    }
+
+    /// The coroutine of a choice, if it has the rank that is tried: all of one rank come before the first of the next.
+    fn tag_of_report(&mut self, wanted: Wanted, trial: &Trial<Notes>, choice: u32) -> Option<Tag> {
+        let count = u32::from(wanted.script.coroutines());
+        let tried = match choice.checked_div(count)? {
+            0 => Rank::Now,
+            1 => Rank::Held,
+            2 => Rank::Cancels,
+            _ => Rank::Never,
+        };
+        let tag = self.turned(wanted, trial, choice.checked_rem(count)?)?;
+        if self
+            .scene
+            .rank(wanted.view(trial), tag, written_by(trial, tag))
+            == tried
+        {
             Some(tag)
         } else {
             None
@@ -144,8 +187,9 @@ impl Path {
             None => 0,
         };
         let turn = match wanted.attempt {
-            0 => 0,
+            0 => last,
             1 => last.saturating_add(1),
+            2 => 0,
             other => mixed(self.marks.len(), other),
         };
         let tag = turn.wrapping_add(choice).checked_rem(count)?;
@@ -157,7 +201,7 @@ impl Path {
         let written = written_by(trial, tag);
         for number in before..written {
             let line = self.done.saturating_add(number.saturating_sub(before));
-            let fit = match self.own_line(tag, number) {
+            let fit = match wanted.plan.line_of(tag, number) {
                 Some(at) => {
                     (!wanted.ordered || at == line)
                         && is_same(wanted.lines.get(at), item_of(trial, tag, number))
@@ -188,7 +232,7 @@ impl Path {
             return self.done.saturating_add(1);
         }
         for tag in 0..wanted.script.coroutines() {
-            if let Some(at) = self.own_line(tag, written_by(trial, tag)) {
+            if let Some(at) = wanted.plan.line_of(tag, written_by(trial, tag)) {
                 return at.saturating_add(1);
             }
         }
@@ -205,9 +249,18 @@ impl Path {
     ) -> Result<(), Memory> {
         let written = written_by(trial, tag);
         for number in before..written {
-            if let Some(item) = item_of(trial, tag, number) {
-                self.places.keep(item, false);
+            if let (Some(item), Some(at)) = (
+                item_of(trial, tag, number),
+                wanted.plan.line_of(tag, number),
+            ) {
+                if !wanted.ordered {
+                    self.scene.keep(wanted.plan, item, at)?;
+                }
             }
+        }
+        self.scene.mark()?;
+        if wanted.follows_wakes() {
+            self.scene.look_at(tag, wanted.attempt == 0)?;
         }
         self.marks.push(self.done)?;
         self.choices.push(0)?;
@@ -220,21 +273,14 @@ impl Path {
     }
 
     /// Forgets what the last poll wrote. The answer says whether there was one.
-    fn forget(&mut self, trial: &Trial<Notes>) -> bool {
+    fn forget(&mut self, wanted: Wanted) -> bool {
         let Some(mark) = self.marks.pop() else {
             return false;
         };
         let _choice = self.choices.pop();
-        if let Some(tag) = trial.made().last().copied() {
-            let written = written_by(trial, tag);
-            let before = written.saturating_sub(self.done.saturating_sub(mark));
-            for number in before..written {
-                if let Some(item) = item_of(trial, tag, number) {
-                    self.places.keep(item, true);
-                }
-            }
-        }
+        self.scene.take_back(wanted.plan);
         self.done = mark;
+        self.turned_back = true;
         true
     }
 
@@ -245,7 +291,7 @@ impl Path {
         trial: &Trial<Notes>,
         noted: bool,
     ) -> Result<bool, Memory> {
-        if wanted.ordered && noted {
+        if !self.turned_back || (wanted.ordered && noted) {
             return Ok(true);
         }
         self.numbers.clear();
@@ -256,23 +302,6 @@ impl Path {
         let key = hash_of(self.numbers.as_slice());
         Ok(self.seen.insert(key)?)
     }
-}
-
-/// Where the lines of each coroutine stand.
-fn own_of(alloc: Global, coroutines: u16, lines: &[Line]) -> Result<Vec<Vec<u32>>, Memory> {
-    let mut own = Vec::with_capacity(alloc, coroutines as usize)?;
-    for _ in 0..coroutines {
-        own.push(Vec::new(alloc))?;
-    }
-    for (at, line) in lines.iter().enumerate() {
-        let Ok(at) = u32::try_from(at) else {
-            break;
-        };
-        if let Some(places) = own.get_mut(line.who as usize) {
-            places.push(at)?;
-        }
-    }
-    Ok(own)
 }
 
 fn is_same(line: Option<&Line>, item: Option<Item>) -> bool {
@@ -330,7 +359,7 @@ fn take_back<G: Gate>(
     requires { TrialStands (program_of wanted.script.now) trial.old }
     ensures { OnOk result (TrialStands (program_of wanted.entry.script.now) trial.new) }
 {
-    if !path.forget(trial) {
+    if !path.forget(wanted) {
         return Ok(false);
     }
     go_back(alloc, wanted, gate, trial, path)?;
@@ -348,11 +377,8 @@ pub(crate) fn step<G: Gate>(
     requires { TrialStands (program_of wanted.script.now) trial.old }
     ensures { OnOk result (TrialStands (program_of wanted.entry.script.now) trial.new) }
 {
-    let Some(choice) = path.next_choice(wanted) else {
+    let Some(tag) = path.next_tag(wanted, trial) else {
         return take_back(alloc, wanted, gate, trial, path);
-    };
-    let Some(tag) = path.tag_of(wanted, trial, choice) else {
-        return Ok(true);
     };
     let before = written_by(trial, tag);
     path.polls = path.polls.saturating_add(1);
@@ -360,6 +386,7 @@ pub(crate) fn step<G: Gate>(
         return Ok(true);
     };
     if !path.fits(wanted, trial, tag, before) {
+        path.turned_back = true;
         go_back(alloc, wanted, gate, trial, path)?;
         return Ok(true);
     }

@@ -5,11 +5,13 @@ ghost use Rattle.script_reader.specs.Scripts.{program_of};
 ghost use Rattle.engine_one.specs.Trials.{TrialStands};
 
 use crate::names::lines_of;
+use crate::plan::Plan;
 use crate::walk::{Path, Wanted, step};
+use channel_model::{Act, ChannelNote};
 use co_base::{Gate, Memory, Tag};
 use engine_one::Trial;
 use history_text::{Line, NoLines};
-use note_book::Notes;
+use note_book::{Item, Notes};
 use report_reader::cut_at;
 use script_reader::Script;
 use std::alloc::Global;
@@ -73,9 +75,11 @@ pub(crate) fn way_of_log<G: Gate>(
     lines: &[Line],
     gate: &G,
 ) -> Result<Way, Memory> {
+    let plan = Plan::new(alloc, script, lines)?;
     let wanted = Wanted {
         script,
         lines,
+        plan: &plan,
         ordered: true,
         attempt: 0,
     };
@@ -100,6 +104,39 @@ fn books_part(text: &[u8]) -> &[u8]
     &text[..text.len() - rest.len()]
 }
 
+/// Whether no whole poll writes a line behind the one before it: a sender that waits lets nobody in, and what a select or a coroutine that
+/// gives up meets between two steps is met by several workers alone.
+fn is_of_cut_poll(before: Option<Line>, line: Line) -> bool {
+    match line.item {
+        Item::Channel(
+            ChannelNote::Partner { .. }
+            | ChannelNote::MainResolved { .. }
+            | ChannelNote::Late { .. },
+        ) => true,
+        Item::Channel(ChannelNote::Made(Act::Admit { .. })) => match before {
+            Some(last) => last.who == line.who && is_offer(last.item),
+            None => false,
+        },
+        _ => false,
+    }
+}
+
+fn is_offer(item: Item) -> bool {
+    matches!(item, Item::Channel(ChannelNote::Made(Act::Offer { .. })))
+}
+
+/// The number, from 1, of the first line that no whole poll writes, as far as is seen without a run.
+fn first_of_cut_poll(lines: &[Line]) -> Option<usize> {
+    let mut before = None;
+    for (at, line) in lines.iter().enumerate() {
+        if is_of_cut_poll(before, *line) {
+            return Some(at.saturating_add(1));
+        }
+        before = Some(*line);
+    }
+    None
+}
+
 /// An order of polls in which a run writes the lines of a report, each coroutine its own.
 pub(crate) fn way_of_report<G: Gate>(
     alloc: Global,
@@ -114,11 +151,16 @@ pub(crate) fn way_of_report<G: Gate>(
         Err(NoLines::AtLine(number)) => return Ok(Way::Stuck(number as usize)),
         Err(NoLines::Memory) => return Err(Memory),
     };
+    if let Some(number) = first_of_cut_poll(lines.as_slice()) {
+        return Ok(Way::Stuck(number));
+    }
+    let plan = Plan::new(alloc, script, lines.as_slice())?;
     let mut stuck = 1;
     for attempt in 0..ATTEMPTS {
         let wanted = Wanted {
             script,
             lines: lines.as_slice(),
+            plan: &plan,
             ordered: false,
             attempt,
         };

@@ -1,9 +1,9 @@
-use Rattle.report_reader.specs.Words.{texts}
+use Rattle.history_text.specs.Names.{listed}
 use Rattle.history_text.proofs.WordCounts.{await_few, await_many}
 use Rattle.history_text.proofs.items.await_by.Goals as goal
 
 pub returns-in_default : goal.returns-in_default
-returns-in_default c = await_few (texts c.args.names.now) c.args.words.now c.in_default.len_below
+returns-in_default c = await_few (listed c.args.names.now) c.args.words.now c.in_default.len_below
 
 pub returns-in_default-2 : goal.returns-in_default-2
-returns-in_default-2 c = await_many (texts c.args.names.now) c.args.words.now c.in_default.len_at_least
+returns-in_default-2 c = await_many (listed c.args.names.now) c.args.words.now c.in_default.len_at_least

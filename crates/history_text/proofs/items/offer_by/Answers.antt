@@ -1,9 +1,9 @@
-use Rattle.report_reader.specs.Words.{texts}
+use Rattle.history_text.specs.Names.{listed}
 use Rattle.history_text.proofs.WordCounts.{offer_few, offer_many}
 use Rattle.history_text.proofs.items.offer_by.Goals as goal
 
 pub returns-in_default : goal.returns-in_default
-returns-in_default c = offer_few (texts c.args.names.now) c.args.words.now c.in_default.len_below
+returns-in_default c = offer_few (listed c.args.names.now) c.args.words.now c.in_default.len_below
 
 pub returns-in_default-2 : goal.returns-in_default-2
-returns-in_default-2 c = offer_many (texts c.args.names.now) c.args.words.now c.in_default.len_at_least
+returns-in_default-2 c = offer_many (listed c.args.names.now) c.args.words.now c.in_default.len_at_least

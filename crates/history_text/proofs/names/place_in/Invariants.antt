@@ -1,7 +1,7 @@
 use Rattle.std.proofs.Common.{◌≡◌, ◌+◌, length}
 use Rattle.report_reader.specs.Words.{texts}
 use Rattle.script_grammar.specs.Places.{place_from}
-use Rattle.history_text.proofs.words.channel_at.Given as goal
+use Rattle.history_text.proofs.names.place_in.Given as goal
 
 abbrev pub invariant-loop-rest : goal.invariant-loop-rest
 invariant-loop-rest l = record {
