@@ -134,6 +134,26 @@ macro_rules! until_come {
     };
 }
 
+/// A receiver and a sender beside it, whose first tickets lie in one lane.
+const ONE_LANE: &str = "\
+channel a rendezvous
+coroutine p
+receive a
+end
+coroutine x
+yield
+end
+coroutine q
+yield
+end
+coroutine main
+send a 1
+end
+spawn p
+spawn x
+spawn q
+";
+
 /// What a call is answered with at a gate with these rules, as a row says it; and that the gate let somebody go, if it did.
 fn held<R: Threads + Wait + Sync>(
     rt: &R,
@@ -175,41 +195,12 @@ const THREE: &str = "run --workers 3";
 
 const SIDE_BY_SIDE: [HoldRule; 1] = [until_passed!(1, 2, 2, 3, 1)];
 
-#[test]
-fn two_workers_run_side_by_side(rt: HostRuntime) -> Result<(), Fail> {
-    let answer = "0 jobs
-job 0 completed 0
-job 1 completed 0
-job 2 completed 0
-";
-    let other = other(&rt, rt.alloc(), TWO, TWO_SPAWNED, &SIDE_BY_SIDE, answer)?;
-    assert_eq!(rt; other, None);
-    Ok(())
-}
-
 const RESUMED_THEN_CANCELLED: [HoldRule; 4] = [
     until_passed!(2, 2, 1, 3, 1),
     until_passed!(0, 6, 1, 3, 1),
     until_come!(0, 6, 1, 4),
     until_passed!(1, 4, 0, 7, 1),
 ];
-
-#[test]
-fn a_receiver_that_was_resumed_and_then_cancelled_gives_its_element_up(
-    rt: HostRuntime,
-) -> Result<(), Fail> {
-    let rules = &RESUMED_THEN_CANCELLED;
-    let answer = "0 channels
-1 await a 0 a.0 0
-1 saw 1
-1 settle a.0 undelivered 5
-2 hand a 0 5
-element a 0 5 undelivered
-";
-    let other = other(&rt, rt.alloc(), TWO, CANCELLED_RECEIVER, rules, answer)?;
-    assert_eq!(rt; other, None);
-    Ok(())
-}
 
 const CANCELLED_BEFORE_THE_SENDER: [HoldRule; 4] = [
     until_passed!(0, 6, 1, 8, 1),
@@ -218,10 +209,73 @@ const CANCELLED_BEFORE_THE_SENDER: [HoldRule; 4] = [
     until_passed!(3, 2, 2, 3, 1),
 ];
 
-#[test]
-fn a_receiver_that_was_cancelled_lets_the_next_one_receive(rt: HostRuntime) -> Result<(), Fail> {
-    let rules = &CANCELLED_BEFORE_THE_SENDER;
-    let answer = "0 channels
+const STOLEN: [HoldRule; 1] = [until_passed!(0, 8, 1, 3, 1)];
+
+const CANCELLED_AFTER_ITS_LOOK: [HoldRule; 3] = [
+    until_passed!(2, 2, 1, 3, 1),
+    until_come!(0, 6, 1, 5),
+    until_passed!(1, 5, 0, 7, 1),
+];
+
+const SECOND_SENDER_FIRST: [HoldRule; 3] = [
+    until_passed!(2, 2, 1, 3, 1),
+    until_passed!(3, 2, 1, 3, 1),
+    until_passed!(2, 2, 3, 3, 1),
+];
+
+const OTHER_GOES_ON: [HoldRule; 2] = [until_come!(0, 2, 3, 2), until_passed!(3, 2, 1, 8, 2)];
+
+/// A call at a gate, and what it is answered with.
+#[derive(Clone, Copy)]
+struct HoldRow {
+    words: &'static str,
+    script: &'static str,
+    rules: &'static [HoldRule],
+    answer: &'static str,
+}
+
+macro_rules! row {
+    ($words:expr, $script:expr, $rules:expr, $answer:expr) => {
+        HoldRow {
+            words: $words,
+            script: $script,
+            rules: $rules,
+            answer: $answer,
+        }
+    };
+}
+
+const ROWS: [HoldRow; 7] = [
+    // Two workers run side by side.
+    row!(
+        TWO,
+        TWO_SPAWNED,
+        &SIDE_BY_SIDE,
+        "0 jobs
+job 0 completed 0
+job 1 completed 0
+job 2 completed 0
+"
+    ),
+    // A receiver that was resumed and then cancelled gives its element up.
+    row!(
+        TWO,
+        CANCELLED_RECEIVER,
+        &RESUMED_THEN_CANCELLED,
+        "0 channels
+1 await a 0 a.0 0
+1 saw 1
+1 settle a.0 undelivered 5
+2 hand a 0 5
+element a 0 5 undelivered
+"
+    ),
+    // A receiver that was cancelled lets the next one receive.
+    row!(
+        THREE,
+        CANCELLED_FIRST,
+        &CANCELLED_BEFORE_THE_SENDER,
+        "0 channels
 1 await a 0 a.0 0
 1 saw 1
 1 withdraw a.0 cancelled
@@ -229,21 +283,86 @@ fn a_receiver_that_was_cancelled_lets_the_next_one_receive(rt: HostRuntime) -> R
 2 await a 1 a.1 0
 2 settle a.1 value 0 5
 3 hand a 1 5
-";
-    let other = other(&rt, rt.alloc(), THREE, CANCELLED_FIRST, rules, answer)?;
-    assert_eq!(rt; other, None);
-    Ok(())
-}
-
-const STOLEN: [HoldRule; 1] = [until_passed!(0, 8, 1, 3, 1)];
-
-#[test]
-fn a_worker_steals_what_another_launched(rt: HostRuntime) -> Result<(), Fail> {
-    let answer = "0 jobs
+"
+    ),
+    // A worker steals what another launched.
+    row!(
+        TWO,
+        LAUNCHED,
+        &STOLEN,
+        "0 jobs
 job 0 completed 0
 job 1 completed 0
-";
-    let other = other(&rt, rt.alloc(), TWO, LAUNCHED, &STOLEN, answer)?;
+"
+    ),
+    // A receiver that is cancelled behind its look receives.
+    row!(
+        THREE,
+        CANCELLED_RECEIVER,
+        &CANCELLED_AFTER_ITS_LOOK,
+        "0 channels
+1 await a 0 a.0 0
+1 settle a.0 value 0 5
+2 hand a 0 5
+"
+    ),
+    // A select takes the clause whose sender came first.
+    row!(
+        THREE,
+        SELECT_OF_TWO,
+        &SECOND_SENDER_FIRST,
+        "4 channels-and-jobs
+1 empty a
+1 empty b
+1 await a 0 a.0 1
+1 await b 0 a.0 2
+1 settle a.0 value 2 2
+2 offer a 1 1 a.1 0
+3 hand b 0 2
+job 0 completing
+job 1 completed 0
+job 2 active
+job 3 completed 0
+element a 1 1 held
+"
+    ),
+    // A coroutine goes on whose last worker is held by another.
+    row!(
+        TWO,
+        ONE_LANE,
+        &OTHER_GOES_ON,
+        "0 jobs
+job 0 completed 0
+job 1 completed 0
+job 2 completed 0
+job 3 completed 0
+"
+    ),
+];
+
+/// The number of the first row with another answer, and what is found in its place.
+fn first_other<R: Threads + Wait + Sync>(
+    rt: &R,
+    alloc: Global,
+    rows: &[HoldRow],
+) -> Result<Option<(usize, String)>, Fail> {
+    for (number, row) in rows.iter().enumerate() {
+        let HoldRow {
+            words,
+            script,
+            rules,
+            answer,
+        } = *row;
+        if let Some(found) = other(rt, alloc, words, script, rules, answer)? {
+            return Ok(Some((number, found)));
+        }
+    }
+    Ok(None)
+}
+
+#[test]
+fn held_coroutines_come_to_what_their_rows_say(rt: HostRuntime) -> Result<(), Fail> {
+    let other = first_other(&rt, rt.alloc(), &ROWS)?;
     assert_eq!(rt; other, None);
     Ok(())
 }
@@ -277,88 +396,6 @@ fn other_at_once<R: Threads + Wait + Sync>(rt: &R, alloc: Global) -> Result<Opti
 #[test]
 fn sixteen_workers_poll_sixteen_coroutines_at_once(rt: HostRuntime) -> Result<(), Fail> {
     let other = other_at_once(&rt, rt.alloc())?;
-    assert_eq!(rt; other, None);
-    Ok(())
-}
-
-const CANCELLED_AFTER_ITS_LOOK: [HoldRule; 3] = [
-    until_passed!(2, 2, 1, 3, 1),
-    until_come!(0, 6, 1, 5),
-    until_passed!(1, 5, 0, 7, 1),
-];
-
-#[test]
-fn a_receiver_that_is_cancelled_behind_its_look_receives(rt: HostRuntime) -> Result<(), Fail> {
-    let rules = &CANCELLED_AFTER_ITS_LOOK;
-    let answer = "0 channels
-1 await a 0 a.0 0
-1 settle a.0 value 0 5
-2 hand a 0 5
-";
-    let other = other(&rt, rt.alloc(), THREE, CANCELLED_RECEIVER, rules, answer)?;
-    assert_eq!(rt; other, None);
-    Ok(())
-}
-
-const SECOND_SENDER_FIRST: [HoldRule; 3] = [
-    until_passed!(2, 2, 1, 3, 1),
-    until_passed!(3, 2, 1, 3, 1),
-    until_passed!(2, 2, 3, 3, 1),
-];
-
-#[test]
-fn a_select_takes_the_clause_whose_sender_came_first(rt: HostRuntime) -> Result<(), Fail> {
-    let rules = &SECOND_SENDER_FIRST;
-    let answer = "4 channels-and-jobs
-1 empty a
-1 empty b
-1 await a 0 a.0 1
-1 await b 0 a.0 2
-1 settle a.0 value 2 2
-2 offer a 1 1 a.1 0
-3 hand b 0 2
-job 0 completing
-job 1 completed 0
-job 2 active
-job 3 completed 0
-element a 1 1 held
-";
-    let other = other(&rt, rt.alloc(), THREE, SELECT_OF_TWO, rules, answer)?;
-    assert_eq!(rt; other, None);
-    Ok(())
-}
-
-/// A receiver and a sender beside it, whose first tickets lie in one lane.
-const ONE_LANE: &str = "\
-channel a rendezvous
-coroutine p
-receive a
-end
-coroutine x
-yield
-end
-coroutine q
-yield
-end
-coroutine main
-send a 1
-end
-spawn p
-spawn x
-spawn q
-";
-
-const OTHER_GOES_ON: [HoldRule; 2] = [until_come!(0, 2, 3, 2), until_passed!(3, 2, 1, 8, 2)];
-
-#[test]
-fn a_coroutine_goes_on_whose_last_worker_is_held_by_another(rt: HostRuntime) -> Result<(), Fail> {
-    let answer = "0 jobs
-job 0 completed 0
-job 1 completed 0
-job 2 completed 0
-job 3 completed 0
-";
-    let other = other(&rt, rt.alloc(), TWO, ONE_LANE, &OTHER_GOES_ON, answer)?;
     assert_eq!(rt; other, None);
     Ok(())
 }

@@ -65,13 +65,6 @@ fn printed(alloc: Global, text: &[u8]) -> Result<Vec<u8>, Fail> {
     Ok(print(alloc, &script)?)
 }
 
-#[test]
-fn a_script_of_every_line_is_printed_as_it_was(rt: HostRuntime) -> Result<(), Fail> {
-    let text = printed(rt.alloc(), EVERY_LINE)?;
-    assert_eq!(rt; text.as_slice(), EVERY_LINE);
-    Ok(())
-}
-
 /// How many tags an instance of the second block takes, and how many coroutines and scopes the script has.
 fn sizes_of(script: &Script) -> Option<[u16; 3]> {
     if script.blocks().len() != 3 {
@@ -123,17 +116,30 @@ coroutine main
 end
 ";
 
-#[test]
-fn a_script_of_the_second_version_is_printed_as_it_was(rt: HostRuntime) -> Result<(), Fail> {
-    let text = printed(rt.alloc(), SECOND_VERSION)?;
-    assert_eq!(rt; text.as_slice(), SECOND_VERSION);
-    Ok(())
+/// Texts of scripts, and each as it is printed.
+const PRINTED: [(&[u8], &[u8]); 3] = [
+    (EVERY_LINE, EVERY_LINE),
+    (SECOND_VERSION, SECOND_VERSION),
+    (COMMENTED, SECOND_VERSION),
+];
+
+/// The first of these texts that is printed otherwise, as it is printed.
+fn first_other(alloc: Global, rows: &[(&[u8], &[u8])]) -> Result<Option<Vec<u8>>, Fail> {
+    for (text, wanted) in rows {
+        let printed = printed(alloc, *text)?;
+        if printed.as_slice() != *wanted {
+            return Ok(Some(printed));
+        }
+    }
+    Ok(None)
 }
 
 #[test]
-fn a_comment_may_stand_before_the_version(rt: HostRuntime) -> Result<(), Fail> {
-    let text = printed(rt.alloc(), COMMENTED)?;
-    assert_eq!(rt; text.as_slice(), SECOND_VERSION);
+fn a_script_is_printed_as_it_was_but_for_comments_and_what_is_not_said(
+    rt: HostRuntime,
+) -> Result<(), Fail> {
+    let other = first_other(rt.alloc(), &PRINTED)?;
+    assert_eq!(rt; other, None);
     Ok(())
 }
 

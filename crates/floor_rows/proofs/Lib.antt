@@ -1,5 +1,7 @@
-pub mod CellsStayDrawn
-pub mod LatestCalls
-pub mod NothingKnown
-pub mod OnTwoChannels
-pub mod SelectsOwnWaits
+mod CellsStayDrawn
+mod KnownLater
+mod LatestCalls
+mod NothingKnown
+mod OnTwoChannels
+mod SelectsOwnWaits
+mod WaitsBegun

@@ -12,7 +12,7 @@ use Rattle.cell_words.specs.Hubs.{shape_of}
 use Rattle.cell_calls.specs.HubFloors.{hub_floor}
 use Rattle.one_thread_floor.specs.declared.list_floor.ListFloor.{ListFloor}
 use Rattle.one_thread_floor.specs.ListFloors.{floor_of}
-use Rattle.floor_tests.specs.Known.{Knows, nothing}
+use Rattle.floor_rows.specs.Known.{Knows, nothing}
 
 pub knows_nothing : (kind : Kind) (places : ℕ) (f : Floor) → f.shape ≡ (kind, places) ∷ [] → is_signal kind ≡ false → Knows nothing f
 knows_nothing kind places f e h = record {

@@ -14,7 +14,7 @@ use Rattle.call_meaning.specs.Seen.{SeenOnChannels, MayCallChannel}
 use Rattle.call_meaning.specs.Telling.{Told, items_in, made}
 use Rattle.call_meaning.specs.ChannelCalls.{Call, sends, receives, Answer, Waits, AtOnce, Refused, blocked, wait_at, Begins, Stops, SelectCall, channel_of}
 use Rattle.call_meaning.proofs.ChannelsHeard.{items_in-append}
-use Rattle.floor_tests.proofs.WaitsBegun.{Begun, begun_own}
+use Rattle.floor_rows.proofs.WaitsBegun.{Begun, begun_own}
 use Rattle.select_calls.specs.Clauses.{MaySelect}
 use Rattle.select_calls.specs.Selects.{SelectedAnswer}
 use Rattle.select_calls.specs.declared.clause.SelectAnswer.{SelectAnswer}

@@ -1,3 +1,4 @@
-pub mod Carries
+pub mod Callers
 pub mod CellsDrawn
+pub mod Known
 pub mod LatestChannels

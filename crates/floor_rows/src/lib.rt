@@ -1,7 +1,8 @@
 //! Tests of what coroutines and workers share: floors of channels, permits over them, floors of Jobs, seats and berths, lanes and crews,
 //! counted cells and gates.
 //!
-//! - `rows`: calls on one channel and their answers, on a floor of lists and over words.
+//! - `known`, `known_calls`: calls on one channel, each made where what it asks is known, so that a list of calls can be a table.
+//! - `rows`: such tables, on a floor of lists and over words.
 //! - `select_tests`: a select of two receives, while another coroutine calls in between: on lists, and over words.
 //! - `at_once`: such a select, and the other's calls by a thread of its own.
 //! - `on_passes`: offers and receives by four threads, each with a pass.
@@ -10,7 +11,6 @@
 //! - `seat_tests`: two callers with a seat each at a hub, and at a forest.
 //! - `berth_tests`: tasks that two seats take and leave.
 //! - `permit_rows`: calls of three coroutines on one permit, and who holds a permit while four threads ask for them.
-//! - `lists`: calls on one channel of a floor of lists.
 //! - `words`: what threads share over words, without a lock.
 //! - `crews`: lanes of tickets, and crews of workers over them.
 #![tactic(auto)]
@@ -22,7 +22,9 @@ mod berth_tests;
 mod crews;
 #[cfg(test)]
 mod forest_rows;
-mod lists;
+mod known;
+#[cfg(test)]
+mod known_calls;
 #[cfg(test)]
 mod on_passes;
 #[cfg(test)]

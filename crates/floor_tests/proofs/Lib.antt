@@ -4,9 +4,7 @@ mod EndsLater
 mod JoinsLater
 mod KnownAfterCalls
 pub mod KnownAtFirst
-pub mod KnownLater
 pub mod LooksBeforeCalls
 mod ReadyWaits
 mod SeenBetween
 pub mod TagsGivenOut
-pub mod WaitsBegun

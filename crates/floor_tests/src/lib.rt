@@ -3,7 +3,6 @@
 //! - `other_calls`: the coroutine that calls in between, and its calls.
 //! - `between`, `between_calls`: a floor on which it makes one before each call of the user.
 //! - `beside`, `beside_calls`: the same where it has a floor of its own on the same channels.
-//! - `known_calls`: calls on one channel, each made where what it asks is known, so that a list of calls can be a table.
 //! - `permit_calls`: calls of several coroutines on the permits of a semaphore.
 //! - `forest_shares`: calls on a forest of Jobs, and its tags shared out among passes.
 #![tactic(auto)]
@@ -13,11 +12,9 @@ mod beside_calls;
 mod between;
 mod between_calls;
 pub mod forest_shares;
-mod known_calls;
 mod other_calls;
 pub mod permit_calls;
 
 pub use beside::Beside;
 pub use between::Between;
-pub use known_calls::{Call, Known, answers};
 pub use other_calls::{OTHER, OtherCall};

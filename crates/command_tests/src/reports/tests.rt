@@ -35,188 +35,208 @@ const SUPERVISOR: JobKind = JobKind {
     lazy: false,
 };
 
-const fn at(channel: u16, place: u32) -> WaitId {
-    WaitId { channel, place }
+macro_rules! at {
+    ($c:expr, $place:expr) => {
+        WaitId {
+            channel: $c,
+            place: $place,
+        }
+    };
 }
 
-fn act(act: Act) -> Item {
-    Item::Channel(ChannelNote::Made(act))
+macro_rules! act {
+    ($act:expr) => {
+        Item::Channel(ChannelNote::Made($act))
+    };
 }
 
-fn job(act: JobAct) -> Item {
-    Item::Job(JobNote::Made(act))
+macro_rules! job {
+    ($act:expr) => {
+        Item::Job(JobNote::Made($act))
+    };
 }
 
-fn put(place: u32, value: u32) -> Item {
-    act(Act::Put { c: 0, place, value })
+macro_rules! put {
+    ($place:expr, $value:expr) => {
+        act!(Act::Put {
+            c: 0,
+            place: $place,
+            value: $value,
+        })
+    };
 }
 
-fn hand(c: u16, place: u32, value: u32) -> Item {
-    act(Act::Hand { c, place, value })
+macro_rules! hand {
+    ($c:expr, $place:expr, $value:expr) => {
+        act!(Act::Hand {
+            c: $c,
+            place: $place,
+            value: $value,
+        })
+    };
 }
 
-fn take(c: u16, place: u32, value: u32) -> Item {
-    act(Act::Take { c, place, value })
+macro_rules! offer {
+    ($place:expr, $value:expr, $clause:expr) => {
+        act!(Act::Offer {
+            c: 0,
+            place: $place,
+            value: $value,
+            main: at!(0, $place),
+            clause: $clause,
+        })
+    };
 }
 
-fn offer(place: u32, value: u32, clause: u8) -> Item {
-    act(Act::Offer {
-        c: 0,
-        place,
-        value,
-        main: at(0, place),
-        clause,
-    })
+macro_rules! wait {
+    ($c:expr, $place:expr, $main:expr, $clause:expr) => {
+        act!(Act::Await {
+            c: $c,
+            place: $place,
+            main: $main,
+            clause: $clause,
+        })
+    };
 }
 
-fn wait(c: u16, place: u32, main: WaitId, clause: u8) -> Item {
-    act(Act::Await {
-        c,
-        place,
-        main,
-        clause,
-    })
+macro_rules! settle {
+    ($place:expr, $outcome:expr) => {
+        act!(Act::Settle {
+            w: at!(0, $place),
+            outcome: $outcome,
+        })
+    };
 }
 
-fn settle(place: u32, outcome: Settled) -> Item {
-    act(Act::Settle {
-        w: at(0, place),
-        outcome,
-    })
+macro_rules! withdraw {
+    ($place:expr, $why:expr) => {
+        act!(Act::Withdraw {
+            w: at!(0, $place),
+            why: $why,
+        })
+    };
 }
 
-fn withdraw(place: u32, why: Why) -> Item {
-    act(Act::Withdraw {
-        w: at(0, place),
-        why,
-    })
-}
-
-fn close(c: u16, value: u32) -> Item {
-    act(Act::Close { c, value })
+macro_rules! close {
+    ($c:expr, $value:expr) => {
+        act!(Act::Close {
+            c: $c,
+            value: $value,
+        })
+    };
 }
 
 /// The row is attached to the root.
-fn attach(row: u16, kind: JobKind, cancelled: bool) -> Item {
-    job(JobAct::Attach {
-        parent: 0,
-        row,
-        kind,
-        tag: row,
-        cancelled,
-    })
+macro_rules! attach {
+    ($row:expr, $kind:expr, $cancelled:expr) => {
+        job!(JobAct::Attach {
+            parent: 0,
+            row: $row,
+            kind: $kind,
+            tag: $row,
+            cancelled: $cancelled,
+        })
+    };
 }
 
-fn start(row: u16) -> Item {
-    job(JobAct::Start { row })
+macro_rules! cancel {
+    ($row:expr, $reason:expr) => {
+        job!(JobAct::Cancel {
+            row: $row,
+            reason: $reason,
+        })
+    };
 }
 
-fn end_body(row: u16, value: u32) -> Item {
-    job(JobAct::EndBody { row, value })
+macro_rules! end_body {
+    ($row:expr, $value:expr) => {
+        job!(JobAct::EndBody {
+            row: $row,
+            value: $value,
+        })
+    };
 }
 
-fn cancel(row: u16, reason: Reason) -> Item {
-    job(JobAct::Cancel { row, reason })
+macro_rules! finish {
+    ($row:expr, $end:expr) => {
+        job!(JobAct::Finish {
+            row: $row,
+            end: $end,
+        })
+    };
 }
 
-fn finish(row: u16, end: End) -> Item {
-    job(JobAct::Finish { row, end })
+/// Three books, and what the report says of them where the script has the channels `a` and `b_2` and so many rows.
+#[derive(Clone, Copy)]
+struct Row {
+    rows: u16,
+    books: [&'static [Item]; 3],
+    text: &'static str,
 }
 
-fn gone(row: u16) -> Item {
-    job(JobAct::Gone { row })
-}
+// ---- An element is sent and received.
 
-fn saw(row: u16) -> Item {
-    Item::Job(JobNote::Saw { row })
-}
+const SENT_FIRST: [Item; 2] = [offer!(0, 5, 0), settle!(0, Settled::Sent(0))];
 
-fn channel(alloc: Global, name: &str) -> Result<Channel, Fail> {
-    Ok(Channel {
-        name: String::from_str(alloc, name)?,
-        kind: Kind::Rendezvous,
-        places: 16_384,
-    })
-}
+const SENT_SECOND: [Item; 1] = [act!(Act::Take {
+    c: 0,
+    place: 0,
+    value: 5,
+})];
 
-fn push(alloc: Global, books: &mut Vec<Notes>, notes: &[Item]) -> Result<(), Memory> {
-    let mut book = Notes::new(alloc);
-    for note in notes {
-        book.room(1)?;
-        book.note(*note);
-    }
-    books.push(book)?;
-    Ok(())
-}
+const SENT: Row = Row {
+    rows: 2,
+    books: [&SENT_FIRST, &SENT_SECOND, &[]],
+    text: "\
+0 offer a 0 5 a.0 0
+0 settle a.0 sent 0
+1 take a 0 5
+job 0 active
+",
+};
 
-/// What the report says of these three books.
-fn text(alloc: Global, channels: &[Channel], rows: u16, notes: [&[Item]; 3]) -> Result<String, Fail>
-    requires { length channels.now < 65536 }
-{
-    let mut books = Vec::new(alloc);
-    push(alloc, &mut books, notes[0])?;
-    push(alloc, &mut books, notes[1])?;
-    push(alloc, &mut books, notes[2])?;
-    Ok(report_of(alloc, channels, rows, books.as_slice())?)
-}
+// ---- Waits, closes, and what was noted of calls that made no act.
 
-/// What the report of a script with the channels `a` and `b_2` says of these two books.
-fn text_of_two(alloc: Global, first: &[Item], second: &[Item]) -> Result<String, Fail> {
-    let channels = [channel(alloc, "a")?, channel(alloc, "b_2")?];
-    text(alloc, &channels, 2, [first, second, &[]])
-}
+const CLOSED_FIRST: [Item; 8] = [
+    wait!(1, 1, at!(1, 1), 0),
+    wait!(2, 0, at!(2, 0), 0),
+    close!(1, 6),
+    act!(Act::WakeClosed { c: 1, place: 1 }),
+    act!(Act::Settle {
+        w: at!(1, 1),
+        outcome: Settled::Closed(0, 6),
+    }),
+    act!(Act::Void { c: 1 }),
+    Item::Channel(ChannelNote::AlreadyClosed { c: 1, v: 6 }),
+    close!(12, 0),
+];
 
-#[test]
-fn says_what_was_noted(rt: HostRuntime) -> Result<(), Fail> {
-    let w = at(0, 0);
-    let sent = text_of_two(
-        rt.alloc(),
-        &[offer(0, 5, 0), settle(0, Settled::Sent(0))],
-        &[take(0, 0, 5)],
-    )?;
-    assert_eq!(rt;
-        sent.as_bytes(),
-        b"0 offer a 0 5 a.0 0\n0 settle a.0 sent 0\n1 take a 0 5\njob 0 active\n".as_slice()
-    );
-    let closing = text_of_two(
-        rt.alloc(),
-        &[
-            wait(1, 1, at(1, 1), 0),
-            wait(2, 0, at(2, 0), 0),
-            close(1, 6),
-            act(Act::WakeClosed { c: 1, place: 1 }),
-            act(Act::Settle {
-                w: at(1, 1),
-                outcome: Settled::Closed(0, 6),
-            }),
-            act(Act::Void { c: 1 }),
-            Item::Channel(ChannelNote::AlreadyClosed { c: 1, v: 6 }),
-            close(12, 0),
-        ],
-        &[
-            Item::Channel(ChannelNote::SendClosed {
-                c: 1,
-                value: 7,
-                v: 6,
-            }),
-            Item::Channel(ChannelNote::TrySendClosed {
-                c: 1,
-                value: 8,
-                v: 6,
-            }),
-            Item::Channel(ChannelNote::ReceiveClosed { c: 1, v: 6 }),
-            Item::Channel(ChannelNote::TryReceiveClosed { c: 1, v: 6 }),
-            Item::Channel(ChannelNote::Full { c: 0, value: 9 }),
-            Item::Channel(ChannelNote::Empty { c: 0 }),
-            Item::Channel(ChannelNote::Spent { c: 1 }),
-            Item::Channel(ChannelNote::Partner { c: 0, place: 4 }),
-            Item::Channel(ChannelNote::MainResolved { w }),
-            Item::Channel(ChannelNote::Late { w: at(2, 0) }),
-        ],
-    )?;
-    assert_eq!(rt;
-        closing.as_bytes(),
-        b"0 await b_2 1 b_2.1 0
+const CLOSED_SECOND: [Item; 10] = [
+    Item::Channel(ChannelNote::SendClosed {
+        c: 1,
+        value: 7,
+        v: 6,
+    }),
+    Item::Channel(ChannelNote::TrySendClosed {
+        c: 1,
+        value: 8,
+        v: 6,
+    }),
+    Item::Channel(ChannelNote::ReceiveClosed { c: 1, v: 6 }),
+    Item::Channel(ChannelNote::TryReceiveClosed { c: 1, v: 6 }),
+    Item::Channel(ChannelNote::Full { c: 0, value: 9 }),
+    Item::Channel(ChannelNote::Empty { c: 0 }),
+    Item::Channel(ChannelNote::Spent { c: 1 }),
+    Item::Channel(ChannelNote::Partner { c: 0, place: 4 }),
+    Item::Channel(ChannelNote::MainResolved { w: at!(0, 0) }),
+    Item::Channel(ChannelNote::Late { w: at!(2, 0) }),
+];
+
+const CLOSED: Row = Row {
+    rows: 2,
+    books: [&CLOSED_FIRST, &CLOSED_SECOND, &[]],
+    text: "\
+0 await b_2 1 b_2.1 0
 0 await @0 0 @0.0 0
 0 close b_2 6
 0 wakeclosed b_2 1
@@ -235,67 +255,74 @@ fn says_what_was_noted(rt: HostRuntime) -> Result<(), Fail> {
 1 resolved a.0
 1 late @0.0
 job 0 active
-"
-            .as_slice()
-    );
-    Ok(())
-}
+",
+};
 
-#[test]
-fn says_what_became_of_each_element(rt: HostRuntime) -> Result<(), Fail> {
-    let held = text_of_two(rt.alloc(), &[offer(0, 4_294_967_295, 0)], &[])?;
-    assert_eq!(rt;
-        held.as_bytes(),
-        b"0 offer a 0 4294967295 a.0 0\njob 0 active\nelement a 0 4294967295 held\n".as_slice()
-    );
-    let fates = text_of_two(
-        rt.alloc(),
-        &[
-            wait(0, 0, at(0, 0), 0),
-            settle(0, Settled::Value(0, 7)),
-            wait(0, 1, at(0, 1), 0),
-            settle(1, Settled::Undelivered(8)),
-            offer(2, 9, 0),
-            withdraw(2, Why::Cancelled),
-            settle(2, Settled::Cancelled),
-            offer(5, 12, 1),
-            wait(1, 0, at(0, 5), 2),
-            settle(5, Settled::Value(2, 13)),
-            offer(6, 14, 3),
-            act(Act::Admit { c: 0, place: 6 }),
-            settle(6, Settled::Sent(3)),
-            offer(7, 15, 1),
-            withdraw(7, Why::Revoked),
-            wait(0, 8, at(0, 8), 0),
-        ],
-        &[
-            hand(0, 0, 7),
-            hand(0, 1, 8),
-            put(3, 10),
-            act(Act::Drop {
-                c: 0,
-                place: 3,
-                value: 10,
-            }),
-            put(4, 11),
-            act(Act::Drain {
-                c: 0,
-                place: 4,
-                value: 11,
-            }),
-            hand(1, 0, 13),
-            hand(0, 8, 16),
-            put(9, 17),
-            act(Act::Spurn {
-                c: 0,
-                place: 9,
-                value: 17,
-            }),
-        ],
-    )?;
-    assert_eq!(rt;
-        fates.as_bytes(),
-        b"0 await a 0 a.0 0
+// ---- An element is held.
+
+const HELD_FIRST: [Item; 1] = [offer!(0, 4_294_967_295, 0)];
+
+const HELD: Row = Row {
+    rows: 2,
+    books: [&HELD_FIRST, &[], &[]],
+    text: "\
+0 offer a 0 4294967295 a.0 0
+job 0 active
+element a 0 4294967295 held
+",
+};
+
+// ---- What became of each element.
+
+const FATES_FIRST: [Item; 16] = [
+    wait!(0, 0, at!(0, 0), 0),
+    settle!(0, Settled::Value(0, 7)),
+    wait!(0, 1, at!(0, 1), 0),
+    settle!(1, Settled::Undelivered(8)),
+    offer!(2, 9, 0),
+    withdraw!(2, Why::Cancelled),
+    settle!(2, Settled::Cancelled),
+    offer!(5, 12, 1),
+    wait!(1, 0, at!(0, 5), 2),
+    settle!(5, Settled::Value(2, 13)),
+    offer!(6, 14, 3),
+    act!(Act::Admit { c: 0, place: 6 }),
+    settle!(6, Settled::Sent(3)),
+    offer!(7, 15, 1),
+    withdraw!(7, Why::Revoked),
+    wait!(0, 8, at!(0, 8), 0),
+];
+
+const FATES_SECOND: [Item; 10] = [
+    hand!(0, 0, 7),
+    hand!(0, 1, 8),
+    put!(3, 10),
+    act!(Act::Drop {
+        c: 0,
+        place: 3,
+        value: 10,
+    }),
+    put!(4, 11),
+    act!(Act::Drain {
+        c: 0,
+        place: 4,
+        value: 11,
+    }),
+    hand!(1, 0, 13),
+    hand!(0, 8, 16),
+    put!(9, 17),
+    act!(Act::Spurn {
+        c: 0,
+        place: 9,
+        value: 17,
+    }),
+];
+
+const FATES: Row = Row {
+    rows: 2,
+    books: [&FATES_FIRST, &FATES_SECOND, &[]],
+    text: "\
+0 await a 0 a.0 0
 0 settle a.0 value 0 7
 0 await a 1 a.1 0
 0 settle a.1 undelivered 8
@@ -331,65 +358,60 @@ element a 6 14 held
 element a 7 15 withdrawn
 element a 8 16 held
 element a 9 17 spurned
-"
-            .as_slice()
-    );
-    Ok(())
-}
+",
+};
 
-#[test]
-fn says_what_was_noted_of_jobs_and_how_far_they_are(rt: HostRuntime) -> Result<(), Fail> {
-    let jobs = text(
-        rt.alloc(),
-        &[],
-        12,
-        [
-            &[
-                attach(1, PLAIN, false),
-                attach(2, SCOPE, false),
-                attach(3, SUPERVISOR, false),
-                attach(4, LAZY, true),
-                attach(5, LAZY, false),
-                attach(6, LAZY, false),
-                start(6),
-                attach(7, PLAIN, false),
-                attach(8, SCOPE, true),
-                attach(9, PLAIN, false),
-                attach(11, PLAIN, false),
-                cancel(1, Reason::Request),
-                cancel(2, Reason::Parent),
-                end_body(7, 4_294_967_295),
-                cancel(9, Reason::Child(7)),
-                end_body(9, 3),
-            ],
-            &[
-                cancel(11, Reason::Own(11)),
-                finish(11, End::Cancelled(Cause::Failure(11))),
-                Item::Job(JobNote::SawEnd {
-                    row: 11,
-                    end: End::Cancelled(Cause::Failure(11)),
-                }),
-                Item::Job(JobNote::SawEnd {
-                    row: 2,
-                    end: End::Cancelled(Cause::Request),
-                }),
-                finish(2, End::Cancelled(Cause::None)),
-                finish(1, End::Completed(6)),
-                gone(1),
-            ],
-            &[
-                saw(2),
-                Item::Job(JobNote::Fail { code: 7 }),
-                Item::Job(JobNote::NoRow),
-                Item::Job(JobNote::Used),
-                Item::Job(JobNote::ParentEnded),
-                attach(12, PLAIN, false),
-            ],
-        ],
-    )?;
-    assert_eq!(rt;
-        jobs.as_bytes(),
-        b"0 attach 1 to 0 tag 1 plain
+// ---- Job acts, and how far each Job is.
+
+const JOBS_FIRST: [Item; 16] = [
+    attach!(1, PLAIN, false),
+    attach!(2, SCOPE, false),
+    attach!(3, SUPERVISOR, false),
+    attach!(4, LAZY, true),
+    attach!(5, LAZY, false),
+    attach!(6, LAZY, false),
+    job!(JobAct::Start { row: 6 }),
+    attach!(7, PLAIN, false),
+    attach!(8, SCOPE, true),
+    attach!(9, PLAIN, false),
+    attach!(11, PLAIN, false),
+    cancel!(1, Reason::Request),
+    cancel!(2, Reason::Parent),
+    end_body!(7, 4_294_967_295),
+    cancel!(9, Reason::Child(7)),
+    end_body!(9, 3),
+];
+
+const JOBS_SECOND: [Item; 7] = [
+    cancel!(11, Reason::Own(11)),
+    finish!(11, End::Cancelled(Cause::Failure(11))),
+    Item::Job(JobNote::SawEnd {
+        row: 11,
+        end: End::Cancelled(Cause::Failure(11)),
+    }),
+    Item::Job(JobNote::SawEnd {
+        row: 2,
+        end: End::Cancelled(Cause::Request),
+    }),
+    finish!(2, End::Cancelled(Cause::None)),
+    finish!(1, End::Completed(6)),
+    job!(JobAct::Gone { row: 1 }),
+];
+
+const JOBS_THIRD: [Item; 6] = [
+    Item::Job(JobNote::Saw { row: 2 }),
+    Item::Job(JobNote::Fail { code: 7 }),
+    Item::Job(JobNote::NoRow),
+    Item::Job(JobNote::Used),
+    Item::Job(JobNote::ParentEnded),
+    attach!(12, PLAIN, false),
+];
+
+const JOBS: Row = Row {
+    rows: 12,
+    books: [&JOBS_FIRST, &JOBS_SECOND, &JOBS_THIRD],
+    text: "\
+0 attach 1 to 0 tag 1 plain
 0 attach 2 to 0 tag 2 scope
 0 attach 3 to 0 tag 3 supervisor
 0 attach 4 to 0 tag 4 lazy cancelled
@@ -429,8 +451,55 @@ job 7 completing
 job 8 cancelling
 job 9 cancelling
 job 11 failed 11
-"
-            .as_slice()
-    );
+",
+};
+
+const ROWS: [Row; 5] = [SENT, CLOSED, HELD, FATES, JOBS];
+
+fn channel(alloc: Global, name: &str) -> Result<Channel, Fail> {
+    Ok(Channel {
+        name: String::from_str(alloc, name)?,
+        kind: Kind::Rendezvous,
+        places: 16_384,
+    })
+}
+
+/// A book of these notes.
+fn book_of(alloc: Global, notes: &[Item]) -> Result<Notes, Memory> {
+    let mut book = Notes::new(alloc);
+    for note in notes {
+        book.room(1)?;
+        book.note(*note);
+    }
+    Ok(book)
+}
+
+/// What the report says of the books of a row.
+fn text_of(alloc: Global, row: Row) -> Result<String, Fail> {
+    let channels = [channel(alloc, "a")?, channel(alloc, "b_2")?];
+    let mut books = Vec::new(alloc);
+    for notes in row.books {
+        books.push(book_of(alloc, notes)?)?;
+    }
+    Ok(report_of(alloc, &channels, row.rows, books.as_slice())?)
+}
+
+/// What the report says of the first row of which it says something else.
+fn first_other(alloc: Global, rows: &[Row]) -> Result<Option<String>, Fail> {
+    for row in rows {
+        let text = text_of(alloc, *row)?;
+        if text.as_str() != row.text {
+            return Ok(Some(text));
+        }
+    }
+    Ok(None)
+}
+
+#[test]
+fn a_report_says_what_was_noted_what_became_of_each_element_and_how_far_jobs_are(
+    rt: HostRuntime,
+) -> Result<(), Fail> {
+    let other = first_other(rt.alloc(), &ROWS)?;
+    assert_eq!(rt; other, None);
     Ok(())
 }

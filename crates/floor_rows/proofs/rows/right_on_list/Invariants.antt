@@ -1,5 +1,5 @@
 use Rattle.one_thread_floor.specs.ListFloors.{floor_of}
-use Rattle.floor_tests.specs.Known.{Knows}
+use Rattle.floor_rows.specs.Known.{Knows}
 use Rattle.floor_rows.proofs.rows.right_on_list.Given as goal
 
 abbrev pub invariant-loop-i : goal.invariant-loop-i

@@ -1,4 +1,4 @@
-use Rattle.floor_tests.proofs.WaitsBegun.{ready_seen}
+use Rattle.floor_rows.proofs.WaitsBegun.{ready_seen}
 use Rattle.floor_rows.proofs.select_tests.end_if_resolved.Goals as goal
 
 pub dispatch-requires-clause-ready : goal.dispatch-requires-clause-ready
