@@ -1,20 +1,25 @@
 //! How long what threads share over words takes. Standard output has how much was done, standard error how long it took.
 //!
-//!     word_bench [channels|parcels|permits|forest|soak [WORDS]]
+//!     word_bench [channels|parcels|permits|forest|soak|gate_soak [WORDS]]
 //!
-//! What is not named is not measured; with no words all is, in this order, but `soak`. Each has words of its own, which its module tells:
+//! What is not named is not measured; with no words all is, in this order, but the soaks. Each has words of its own, which its module
+//! tells:
 //!
 //! - `channels`: transfers through channels over words, through counted cells, and through crossbeam_channel.
 //! - `parcels`: boxes through channels of owned values, through rings, and through crossbeam_channel.
 //! - `semaphores`: permits, gates, and the kit's lock.
 //! - `forests`: calls on a forest of Jobs, and tickets through lanes.
 //! - `soak`: numbers through a ring by four threads, each received once.
+//! - `gate_soak`: permits of a gate that four threads acquire and release.
+//! - `shares`: four shares of work, on one, two or four threads.
 #![tactic(auto)]
 
 mod channels;
 mod forests;
+mod gate_soak;
 mod parcels;
 mod semaphores;
+mod shares;
 mod soak;
 
 use std::rt::Env;
@@ -29,6 +34,7 @@ enum What {
     Permits,
     Forest,
     Soak,
+    GateSoak,
 }
 
 /// What the first word says.
@@ -42,6 +48,7 @@ fn what_of(word: Option<String>) -> Option<What> {
         "permits" => Some(What::Permits),
         "forest" => Some(What::Forest),
         "soak" => Some(What::Soak),
+        "gate_soak" => Some(What::GateSoak),
         _ => None,
     }
 }
@@ -61,6 +68,7 @@ fn main(rt: HostRuntime) -> io::Result<()> {
         What::Permits => semaphores::bench(&rt),
         What::Forest => forests::bench(&rt),
         What::Soak => soak::bench(&rt),
+        What::GateSoak => gate_soak::bench(&rt),
         What::All => {
             channels::bench(&rt)?;
             parcels::bench(&rt)?;

@@ -13,7 +13,7 @@
 ghost use Rattle.std.specs.Prelude.{◌≡◌, ◌≤◌};
 ghost use Rattle.floor_tests.specs.KnownPermits.{IsNumber};
 
-mod gates_at_once;
+pub(crate) mod gates_at_once;
 mod locks;
 
 use floor_tests::permit_calls::tally_of_four;

@@ -6,11 +6,12 @@ ghost use Rattle.word_bench.specs.Channels.{CarryElements};
 use crate::channels::apart::{receive_next, send};
 use crate::channels::on_passes::{offer, receive};
 use crate::channels::waits::select;
+use crate::shares::by_four;
 use cell_words::{Hub, Pass};
 use channel_model::{Got, Offered};
 use co_base::{Tag, Value};
 use std::sync::Wait;
-use std::thread::{Threads, join};
+use std::thread::Threads;
 
 /// What a coroutine does in each turn.
 #[derive(Clone, Copy)]
@@ -196,29 +197,6 @@ fn work_on(hub: &Hub, caller: Caller, times: u32) -> Caller
     }
 }
 
-/// The work of two, one after the other, or at once by a thread each.
-fn by_two<R: Threads + Wait + Sync>(
-    rt: &R,
-    hub: &Hub,
-    a: Caller,
-    b: Caller,
-    times: u32,
-    at_once: bool,
-) -> (Caller, Caller)
-    requires channels { CarryElements hub.now }
-    requires a { IsOwn hub.now a.pass a.who }
-    requires b { IsOwn hub.now b.pass b.who }
-    ensures a { IsOwn hub.now result.0.pass result.0.who }
-    ensures b { IsOwn hub.now result.1.pass result.1.who }
-{
-    if at_once {
-        return join(rt, || work_on(hub, a, times), || work_on(hub, b, times));
-    }
-    let a = work_on(hub, a, times);
-    let b = work_on(hub, b, times);
-    (a, b)
-}
-
 /// The work of four, by so many threads, which are none, one, two or four.
 pub(crate) fn work_by<R: Threads + Wait + Sync>(
     rt: &R,
@@ -237,24 +215,8 @@ pub(crate) fn work_by<R: Threads + Wait + Sync>(
         return four;
     }
     let Four { a, b, c, d } = four;
-    if threads == 1 {
-        let (a, b) = by_two(rt, hub, a, b, times, false);
-        let (c, d) = by_two(rt, hub, c, d, times, false);
-        return Four { a, b, c, d };
-    }
-    let four_threads = threads != 2;
-    let ((a, b), (c, d)) = join(
-        rt,
-        || -> (Caller, Caller)
-            requires channels { CarryElements hub.now }
-            requires first { IsOwn hub.now a.pass a.who }
-            requires second { IsOwn hub.now b.pass b.who }
-        { by_two(rt, hub, a, b, times, four_threads) },
-        || -> (Caller, Caller)
-            requires channels { CarryElements hub.now }
-            requires first { IsOwn hub.now c.pass c.who }
-            requires second { IsOwn hub.now d.pass d.who }
-        { by_two(rt, hub, c, d, times, four_threads) },
-    );
+    let left = (|| work_on(hub, a, times), || work_on(hub, b, times));
+    let right = (|| work_on(hub, c, times), || work_on(hub, d, times));
+    let ((a, b), (c, d)) = by_four(rt, threads, left, right);
     Four { a, b, c, d }
 }

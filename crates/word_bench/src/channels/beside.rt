@@ -1,5 +1,6 @@
 //! The same work on channels of crossbeam_channel. Its calls wait for one another, where those over words answer.
 
+use crate::shares::{by_four, sum};
 use crossbeam_channel::{Receiver, Sender, bounded, select, unbounded};
 use std::alloc::{AllocError, Global};
 use std::sync::Wait;
@@ -54,29 +55,6 @@ fn exchange_all<R: Wait>(rt: &R, to: Sender<u32>, from: Receiver<u32>, times: u3
     met
 }
 
-/// The work of two, one after the other, or at once by a thread each.
-fn exchange_by_two<R: Threads + Wait + Sync>(
-    rt: &R,
-    to: (Sender<u32>, Sender<u32>),
-    from: (Receiver<u32>, Receiver<u32>),
-    times: u32,
-    at_once: bool,
-) -> u32 {
-    let (to_a, to_b) = to;
-    let (from_a, from_b) = from;
-    if at_once {
-        let (a, b) = join(
-            rt,
-            || exchange_all(rt, to_a, from_a, times),
-            || exchange_all(rt, to_b, from_b, times),
-        );
-        return a.saturating_add(b);
-    }
-    let a = exchange_all(rt, to_a, from_a, times);
-    let b = exchange_all(rt, to_b, from_b, times);
-    a.saturating_add(b)
-}
-
 /// So many transfers by four, who send and receive by turns, by so many threads, which are none, one, two or four.
 pub(crate) fn by_turns<R: Threads + Wait + Sync>(
     rt: &R,
@@ -86,26 +64,21 @@ pub(crate) fn by_turns<R: Threads + Wait + Sync>(
     threads: u32,
 ) -> Result<u32, AllocError> {
     let (to, from) = new_channel(alloc, capacity)?;
-    let to_first = (to.clone()?, to.clone()?);
-    let from_first = (from.clone()?, from.clone()?);
-    let to_other = (to.clone()?, to);
-    let from_other = (from.clone()?, from);
+    let (to_b, to_c, to_d) = (to.clone()?, to.clone()?, to.clone()?);
+    let (from_b, from_c, from_d) = (from.clone()?, from.clone()?, from.clone()?);
     let quarter = transfers / 4;
     if threads == 0 {
         return Ok(0);
     }
-    if threads == 1 {
-        let a = exchange_by_two(rt, to_first, from_first, quarter, false);
-        let b = exchange_by_two(rt, to_other, from_other, quarter, false);
-        return Ok(a.saturating_add(b));
-    }
-    let four_threads = threads != 2;
-    let (a, b) = join(
-        rt,
-        || exchange_by_two(rt, to_first, from_first, quarter, four_threads),
-        || exchange_by_two(rt, to_other, from_other, quarter, four_threads),
+    let left = (
+        || exchange_all(rt, to, from, quarter),
+        || exchange_all(rt, to_b, from_b, quarter),
     );
-    Ok(a.saturating_add(b))
+    let right = (
+        || exchange_all(rt, to_c, from_c, quarter),
+        || exchange_all(rt, to_d, from_d, quarter),
+    );
+    Ok(sum(by_four(rt, threads, left, right)))
 }
 
 /// Two senders at once, and two receivers, who make half of the transfers each.

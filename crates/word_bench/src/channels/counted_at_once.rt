@@ -2,11 +2,12 @@
 ghost use Rattle.std.specs.Prelude.{◌≤◌, ◌<◌, ◌+◌, IfOk};
 ghost use Rattle.counted_cells.specs.Passes.{IsOf};
 
+use crate::shares::by_four;
 use co_base::Memory;
 use counted_cells::{Counted, CountedGot, CountedPass, CountedSend};
 use std::alloc::Global;
 use std::sync::Wait;
-use std::thread::{Threads, join};
+use std::thread::Threads;
 
 /// A pass, and how many of its calls found their partner.
 #[derive(Drop)]
@@ -89,26 +90,6 @@ fn work(counted: &Counted, drawer: Drawer, times: u32) -> Drawer
     Drawer { pass, met }
 }
 
-/// The work of two, one after the other, or at once by a thread each.
-fn by_two<R: Threads + Wait + Sync>(
-    rt: &R,
-    counted: &Counted,
-    a: Drawer,
-    b: Drawer,
-    times: u32,
-    at_once: bool,
-) -> (Drawer, Drawer)
-    requires a { IsOf counted.now a.pass }
-    requires b { IsOf counted.now b.pass }
-{
-    if at_once {
-        return join(rt, || work(counted, a, times), || work(counted, b, times));
-    }
-    let a = work(counted, a, times);
-    let b = work(counted, b, times);
-    (a, b)
-}
-
 /// The work of four, by so many threads, which are none, one, two or four.
 pub(crate) fn draw_by<R: Threads + Wait + Sync>(
     rt: &R,
@@ -126,22 +107,8 @@ pub(crate) fn draw_by<R: Threads + Wait + Sync>(
         return four;
     }
     let FourDrawers { a, b, c, d } = four;
-    if threads == 1 {
-        let (a, b) = by_two(rt, counted, a, b, times, false);
-        let (c, d) = by_two(rt, counted, c, d, times, false);
-        return FourDrawers { a, b, c, d };
-    }
-    let four_threads = threads != 2;
-    let ((a, b), (c, d)) = join(
-        rt,
-        || -> (Drawer, Drawer)
-            requires first { IsOf counted.now a.pass }
-            requires second { IsOf counted.now b.pass }
-        { by_two(rt, counted, a, b, times, four_threads) },
-        || -> (Drawer, Drawer)
-            requires first { IsOf counted.now c.pass }
-            requires second { IsOf counted.now d.pass }
-        { by_two(rt, counted, c, d, times, four_threads) },
-    );
+    let left = (|| work(counted, a, times), || work(counted, b, times));
+    let right = (|| work(counted, c, times), || work(counted, d, times));
+    let ((a, b), (c, d)) = by_four(rt, threads, left, right);
     FourDrawers { a, b, c, d }
 }

@@ -4,12 +4,13 @@ ghost use Rattle.parcel_channel.specs.Numbers.{KeepsAll};
 ghost use Rattle.parcel_channel.specs.Hubs.{IsOf};
 ghost use Rattle.word_bench.specs.Passes.{IsMain, IsOther, Keeps};
 
+use crate::shares::by_four;
 use channel_model::Kind;
 use co_base::Memory;
 use parcel_channel::{ParcelGot, ParcelHub, ParcelPass, ParcelSent};
 use std::alloc::Global;
 use std::sync::Wait;
-use std::thread::{Threads, join};
+use std::thread::Threads;
 
 /// What is sent.
 pub(crate) type Parcel = Box<[u64; 16]>;
@@ -81,33 +82,6 @@ fn work(hub: &ParcelHub<Parcel>, mut pass: ParcelPass<Parcel>, alloc: Global, ti
     Worker { pass, met }
 }
 
-/// The work of two, one after the other, or at once by a thread each.
-fn by_two<R: Threads + Wait + Sync>(
-    rt: &R,
-    hub: &ParcelHub<Parcel>,
-    a: ParcelPass<Parcel>,
-    b: ParcelPass<Parcel>,
-    alloc: Global,
-    times: u32,
-    at_once: bool,
-) -> (Worker, Worker)
-    requires a { IsOf hub.now a }
-    requires b { IsOf hub.now b }
-    ensures a { Keeps hub.now a result.0.pass }
-    ensures b { Keeps hub.now b result.1.pass }
-{
-    if at_once {
-        return join(
-            rt,
-            || work(hub, a, alloc, times),
-            || work(hub, b, alloc, times),
-        );
-    }
-    let a = work(hub, a, alloc, times);
-    let b = work(hub, b, alloc, times);
-    (a, b)
-}
-
 /// How many calls of the four found their partner; each of them made a transfer. All passes have ended into the first, and the channel is
 /// given up.
 fn give_up(hub: ParcelHub<Parcel>, four: ((Worker, Worker), (Worker, Worker))) -> u32
@@ -151,23 +125,9 @@ fn work_by<R: Threads + Wait + Sync>(
     ensures d { Keeps hub.now four.d result.1.1.pass }
 {
     let FourPasses { a, b, c, d } = four;
-    if threads == 1 {
-        let left = by_two(rt, hub, a, b, alloc, times, false);
-        let right = by_two(rt, hub, c, d, alloc, times, false);
-        return (left, right);
-    }
-    let four_threads = threads != 2;
-    join(
-        rt,
-        || -> (Worker, Worker)
-            requires a { IsOf hub.now a }
-            requires b { IsOf hub.now b }
-        { by_two(rt, hub, a, b, alloc, times, four_threads) },
-        || -> (Worker, Worker)
-            requires c { IsOf hub.now c }
-            requires d { IsOf hub.now d }
-        { by_two(rt, hub, c, d, alloc, times, four_threads) },
-    )
+    let left = (|| work(hub, a, alloc, times), || work(hub, b, alloc, times));
+    let right = (|| work(hub, c, alloc, times), || work(hub, d, alloc, times));
+    by_four(rt, threads, left, right)
 }
 
 /// So many transfers by each of the four, on so many threads, which are one, two or four. Answers how many calls found their partner.

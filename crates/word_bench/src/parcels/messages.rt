@@ -1,10 +1,11 @@
 //! The same by the kit's `crossbeam_channel`.
 
 use crate::parcels::boxes::Parcel;
+use crate::shares::{by_four, sum};
 use crossbeam_channel::{Receiver, Sender, bounded};
 use std::alloc::Global;
 use std::sync::Wait;
-use std::thread::{Threads, join};
+use std::thread::Threads;
 
 /// So many sends and as many receives, by turns. Answers how many boxes came.
 fn work<R: Wait>(
@@ -25,30 +26,6 @@ fn work<R: Wait>(
     came
 }
 
-/// The work of two, one after the other, or at once by a thread each.
-fn by_two<R: Threads + Wait + Sync>(
-    rt: &R,
-    sender: &Sender<Parcel, Global>,
-    receiver: &Receiver<Parcel, Global>,
-    alloc: Global,
-    times: u32,
-    at_once: bool,
-) -> u32 {
-    let (a, b) = if at_once {
-        join(
-            rt,
-            || work(rt, sender, receiver, alloc, times),
-            || work(rt, sender, receiver, alloc, times),
-        )
-    } else {
-        (
-            work(rt, sender, receiver, alloc, times),
-            work(rt, sender, receiver, alloc, times),
-        )
-    };
-    a.saturating_add(b)
-}
-
 /// So many transfers by each of four, through a channel that keeps so many boxes, on so many threads, which are one, two or four. Answers
 /// how many boxes came, or none if no channel could be made.
 pub(crate) fn sent_by<R: Threads + Wait + Sync>(
@@ -62,18 +39,13 @@ pub(crate) fn sent_by<R: Threads + Wait + Sync>(
         return None;
     };
     let (sender, receiver) = (&sender, &receiver);
-    let (a, b) = if threads == 1 {
-        (
-            by_two(rt, sender, receiver, alloc, times, false),
-            by_two(rt, sender, receiver, alloc, times, false),
-        )
-    } else {
-        let four_threads = threads != 2;
-        join(
-            rt,
-            || by_two(rt, sender, receiver, alloc, times, four_threads),
-            || by_two(rt, sender, receiver, alloc, times, four_threads),
-        )
-    };
-    Some(a.saturating_add(b))
+    let left = (
+        || work(rt, sender, receiver, alloc, times),
+        || work(rt, sender, receiver, alloc, times),
+    );
+    let right = (
+        || work(rt, sender, receiver, alloc, times),
+        || work(rt, sender, receiver, alloc, times),
+    );
+    Some(sum(by_four(rt, threads, left, right)))
 }

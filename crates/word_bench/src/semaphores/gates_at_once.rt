@@ -2,11 +2,12 @@
 ghost use Rattle.std.specs.Prelude.{◌≡◌, ◌<◌, ◌≤◌, true, IfOk};
 ghost use Rattle.gates.specs.Passes.{IsOf};
 
+use crate::shares::by_four;
 use co_base::Memory;
 use gates::{Gate, GatePass, TryAcquired};
 use std::alloc::Global;
 use std::sync::Wait;
-use std::thread::{Threads, join, yield_now};
+use std::thread::{Threads, yield_now};
 
 /// A pass, and how often it held a permit.
 #[derive(Drop)]
@@ -72,7 +73,7 @@ pub(crate) fn new_gate(alloc: Global, permits: u32) -> Result<(Gate, FourWorkers
 }
 
 /// Takes a permit, and tries again while there is none.
-fn take(gate: &Gate, pass: &mut GatePass) -> bool
+pub(crate) fn take(gate: &Gate, pass: &mut GatePass) -> bool
     requires of { IsOf gate.now pass.old }
     ensures of { IsOf gate.now pass.new }
     ensures held { result ≡ true → 0 < pass.new.held }
@@ -102,26 +103,6 @@ fn work(gate: &Gate, worker: Worker, times: u32) -> Worker
     Worker { pass, held }
 }
 
-/// The work of two, one after the other, or at once by a thread each.
-fn by_two<R: Threads + Wait + Sync>(
-    rt: &R,
-    gate: &Gate,
-    a: Worker,
-    b: Worker,
-    times: u32,
-    at_once: bool,
-) -> (Worker, Worker)
-    requires a { IsOf gate.now a.pass }
-    requires b { IsOf gate.now b.pass }
-{
-    if at_once {
-        return join(rt, || work(gate, a, times), || work(gate, b, times));
-    }
-    let a = work(gate, a, times);
-    let b = work(gate, b, times);
-    (a, b)
-}
-
 /// The work of four, by one, two or four threads.
 pub(crate) fn work_by<R: Threads + Wait + Sync>(
     rt: &R,
@@ -136,22 +117,8 @@ pub(crate) fn work_by<R: Threads + Wait + Sync>(
     requires d { IsOf gate.now four.d.pass }
 {
     let FourWorkers { a, b, c, d } = four;
-    if threads == 1 {
-        let (a, b) = by_two(rt, gate, a, b, times, false);
-        let (c, d) = by_two(rt, gate, c, d, times, false);
-        return FourWorkers { a, b, c, d };
-    }
-    let four_threads = threads != 2;
-    let ((a, b), (c, d)) = join(
-        rt,
-        || -> (Worker, Worker)
-            requires first { IsOf gate.now a.pass }
-            requires second { IsOf gate.now b.pass }
-        { by_two(rt, gate, a, b, times, four_threads) },
-        || -> (Worker, Worker)
-            requires first { IsOf gate.now c.pass }
-            requires second { IsOf gate.now d.pass }
-        { by_two(rt, gate, c, d, times, four_threads) },
-    );
+    let left = (|| work(gate, a, times), || work(gate, b, times));
+    let right = (|| work(gate, c, times), || work(gate, d, times));
+    let ((a, b), (c, d)) = by_four(rt, threads, left, right);
     FourWorkers { a, b, c, d }
 }
