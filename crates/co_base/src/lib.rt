@@ -4,6 +4,7 @@
 //!
 //! - `names.rt`: names and errors
 //! - `gates.rt`: gates and wakes
+//! - `ghost_list.rt`: lists that contracts see
 //! - `streams.rt`: what a source and a sink promise
 //! - `reading.rt`, `writing.rt`: a whole script in, a whole text out
 //! - `failing.rt`, `in_memory.rt`: a source and a sink that fail where they are told
@@ -13,6 +14,7 @@
 
 mod failing;
 mod gates;
+mod ghost_list;
 mod in_memory;
 mod names;
 mod reading;
@@ -22,6 +24,7 @@ mod streams;
 mod writing;
 
 pub use gates::{Gate, OpenGate, Wakes};
+pub use ghost_list::GhostList;
 pub use in_memory::{MemorySink, MemorySource};
 pub use names::{ChannelId, Failed, Memory, Place, ReadError, Row, Tag, Value, WaitId, WriteFault};
 pub use reading::{LONGEST_SCRIPT, read_script};
