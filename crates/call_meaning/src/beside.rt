@@ -10,8 +10,8 @@ use job_model::JobFloor;
 
 /// A floor of Jobs beside a floor of channels that the same coroutine calls.
 ///
-/// What was seen on the one floor is not known on the other until that hears of it. If the Job floor is `joint`, the entries of both have one
-/// order, and who has heard knows that what it does next comes later than all that was seen on either. Else there is no such order, and
+/// What was seen on the one floor is not known on the other until that hears of it. If the Job floor is `joint`, the entries of both have
+/// one order, and who has heard knows that what it does next comes later than all that was seen on either. Else there is no such order, and
 /// nothing is said of it. No entry is made.
 pub trait JobsBeside<C: ChannelFloor>: JobFloor {
     /// The floor of Jobs hears what was seen on that of channels.

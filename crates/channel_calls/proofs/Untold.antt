@@ -12,7 +12,7 @@ use Rattle.call_meaning.specs.Stories.{IsTrue}
 use Rattle.call_meaning.specs.Calls.{ToldOnChannels}
 use Rattle.call_meaning.proofs.ChannelsHeard.{told_then}
 use Rattle.call_meaning.proofs.Prefixes.{prefix_first, prefix_of, prefix_behind}
-use Rattle.channel_calls.specs.Calls.{Tells, ToldPart, ToldSome, IsUntouched}
+use Rattle.channel_calls.specs.Calls.{ToldPart, IsUntouched}
 use Rattle.call_meaning.specs.Seen.{SeenOnChannels}
 
 -- ---- a call that made nothing
@@ -89,10 +89,6 @@ part_none P all p h = record { told = []; goes = prefix_first P [] all p; left =
 pub part_of : (P Q : List Told → Type 0) → ((all : List Told) → P all → Q all) → {a b : SeenOnChannels} → ToldPart P a b → ToldPart Q a b
 part_of P Q f h = record { told = h.told; goes = prefix_of P Q f h.told h.goes; left = h.left }
 
--- whatever it is
-pub part_some : {P : List Told → Type 0} {a b : SeenOnChannels} → Tells P a b → ToldSome a b
-part_some h = record { told = h.told; goes = tt; left = h.left }
-
 -- the second of two calls found none, with nothing made
 pub part_stopped : (P : List Told → Type 0) (told rest : List Told) → P (told ++ rest) → {a b d : SeenOnChannels} → ToldOnChannels a b told
     → IsUntouched b d → ToldPart P a d
@@ -102,7 +98,3 @@ part_stopped P told rest p h m = record { told = told; goes = prefix_first P tol
 pub part_then : (P Q : List Told → Type 0) (first : List Told) → ((all : List Told) → P all → Q (first ++ all)) → {a b d : SeenOnChannels}
     → ToldOnChannels a b first → ToldPart P b d → ToldPart Q a d
 part_then P Q first f h m = record { told = first ++ m.told; goes = prefix_behind P Q first f m.told m.goes; left = told_then h m.left }
-
--- nothing changed
-pub untouched_some : {a b : SeenOnChannels} → IsUntouched a b → ToldSome a b
-untouched_some h = record { told = []; goes = tt; left = untouched_told h }

@@ -56,7 +56,8 @@ impl End {
     /// Sends, or waits.
     pub(crate) fn send(&mut self, item: u64) -> SendOutcome<u64>
         ensures same { SameEnd self.old self.new }
-        ensures answer { SendAnswer (ring_of self.old).slots (ring_of self.old).places self.old.tag item (seen_of self.old) (seen_of self.new) result }
+        ensures answer { SendAnswer (ring_of self.old).slots (ring_of self.old).places self.old.tag item (seen_of self.old)
+            (seen_of self.new) result }
     {
         let tag = self.tag;
         self.ring.send(&mut self.pass, tag, item)

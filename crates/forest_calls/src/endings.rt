@@ -51,7 +51,8 @@ pub fn finish_up<'a, B: NoteBook, W: Wakes, E: Ends<Ranger<'a>, B, W>>(
     ensures anchor { ranger_anchor ranger.new ≡ ranger_anchor ranger.old }
     ensures own { IsOwn ranger.old.forest.now ranger.new.pass.now who }
     ensures giving { SameGiving ranger.old.pass.now ranger.new.pass.now }
-    ensures finished { IsFinishedUp E.prepares E.does E.leaves row (seen_with (seen_jobs ranger_floor B.items who ranger.old book.old) ends.old)
+    ensures finished { IsFinishedUp E.prepares E.does E.leaves row
+        (seen_with (seen_jobs ranger_floor B.items who ranger.old book.old) ends.old)
         (seen_with (seen_jobs ranger_floor B.items who ranger.new book.new) ends.new) result }
 {
     finish_over(ranger, book, wakes, who, row, ends)

@@ -2,7 +2,7 @@
 use Rattle.std.specs.Prelude.{◌≡◌, ℕ, ◌+◌, ◌-◌, ◌^◌, ◌≤◌, ◌<◌, ◌==◌, Bool, true, ◌||◌, List, [], ◌∷◌, ◌++◌, length, None, MatchBool, if◌then◌else◌, refl}
 use Rattle.std.proofs.Common.{sym, ap, ◌∙◌, subst, arith, append_assoc, append-nil, length-append, ne_eqb, eq-eqb}
 use Rattle.worded.specs.Views.{has_tag, having_seen}
-use Rattle.worded.specs.Exchanges.{Loaded, Entered, MayLift, TookIn}
+use Rattle.worded.specs.Exchanges.{Loaded, Entered, TookIn}
 use Rattle.worded.specs.Histories.{entries_of}
 use Rattle.worded.proofs.StepsOfSeats as steps
 use Rattle.worded.proofs.TagsHeld.{has_tag-or}
@@ -279,6 +279,3 @@ laws_ended key number splits held waits v u w is numbered ungiven counted m = re
     first_of (x ∷ xs) ys h = refl
 
 -- ---- words that tell nothing
-
-pub may_ring : (key word least : ℕ) (v : Seen) → (word ≡ 0 → ⊥) → MayLift (Legal key) (Fits key) maker v word least
-may_ring key word least v ne others n since found = record { word = λ e. absurd (ne e) }

@@ -218,10 +218,3 @@ pub held_small : (n who held : ℕ) (waits : Bool) (s : State) → Sound n s →
 held_small n who held waits s sound h le = let a : count who s.holders ≤ length s.holders = count_small who s.holders in
     let b : s.free + length s.holders ≡ n = sound.total in
     let c : held ≤ count who s.holders = holds_more who held waits s h in omega (arith, a, b, c, le)
-
--- a pass that waited and was granted a permit holds one more
-pub counted_granted : (who held : ℕ) (s : State) → Counted who held true s → s.waits who ≡ false → Counted who (held + 1) false s
-counted_granted who held s h none = record { claimed = same (held + 1) h.claimed; calm = λ f. none }
-  where
-    same : (n : ℕ) → claims who s ≡ n → claims who s ≡ n + 0
-    same n e = omega (arith, e)

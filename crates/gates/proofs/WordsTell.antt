@@ -116,14 +116,6 @@ waits_told n s t h le = by_test (nat_lt t 48) refl
     by_test true is = ap (λ b. b && (bit_at (word_of s) (16 + t) == 1)) is ∙ ap (λ x. x == 1) (bit (ltb-true t 48 is)) ∙ is_one (s.waits t)
     by_test false is = ap (λ b. b && (bit_at (word_of s) (16 + t) == 1)) is ∙ sym (h.few t (ltb-false t 48 is))
 
--- who waits by a word has one of its bits
-pub waits_low : (w t : ℕ) → waits_in w t ≡ true → t < 48
-waits_low w t h = by_test (nat_lt t 48) refl h
-  where
-    by_test : (b : Bool) → nat_lt t 48 ≡ b → (b && (bit_at w (16 + t) == 1)) ≡ true → t < 48
-    by_test true is k = ltb-true t 48 is
-    by_test false is k = cc
-
 and_no : (a b : Bool) → b ≡ false → (a && b) ≡ false
 and_no true b h = h
 and_no false b h = refl

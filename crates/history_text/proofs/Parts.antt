@@ -15,7 +15,7 @@ use Rattle.history_text.specs.declared.input.NoInput.{NoInput}
 use Rattle.history_text.specs.declared.input.NoInput.TheVariants as no_input
 use Rattle.history_text.specs.Inputs.{IsCut}
 use Rattle.history_text.specs.Numbers.{shape_by, shape_of}
-use Rattle.history_text.specs.Readings.{IsFaulty, IsRead, IsReadAs, IsRefused, IsRefusedAs}
+use Rattle.history_text.specs.Readings.{IsRead, IsReadAs, IsRefused, IsRefusedAs}
 
 some_parts : (line : List ℕ) (more : List (List ℕ)) → 0 < length more → join_with_byte 10 (line ∷ more) ≡ line
     ++ 10 ∷ join_with_byte 10 more
@@ -42,13 +42,6 @@ told TooDeep P n h = h
 told TooMany P n h = h
 told Recursive P n h = h
 told Memory P n h = absurd (n refl)
-
--- why the first part was not read
-pub faulty_as : (why : NoInput) (header text : List ℕ) → IsFaulty why header → IsRefusedAs why header text
-faulty_as no_input.NoHistory header text h = absurd h
-faulty_as (no_input.Fault fault) header text h = h
-faulty_as (no_input.NoItem n) header text h = absurd h
-faulty_as no_input.Memory header text h = tt
 
 -- the numbers that the words of a line are
 pub marked : (o : Option JobNumbers) (words : List (List ℕ)) (line : List ℕ) → option_map shape_of o ≡ shape_by words → words ≡ words_of line

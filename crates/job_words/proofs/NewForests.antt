@@ -1,10 +1,9 @@
 -- A forest as it is made.
-use Rattle.std.specs.Prelude.{◌≡◌, ◌≢◌, ℕ, ◌+◌, ◌*◌, ◌==◌, ◌<◌, Bool, true, false, List, [], ◌∷◌, length, Some, None, option_map, if◌then◌else◌, refl}
-use Rattle.std.proofs.Common.{inl, sym, ap, ◌∙◌, subst, arith, get_or, eq-eqb, ne_eqb}
+use Rattle.std.specs.Prelude.{◌≡◌, ◌≢◌, ℕ, ◌+◌, ◌==◌, Bool, true, false, List, [], ◌∷◌, if◌then◌else◌, refl}
+use Rattle.std.proofs.Common.{sym, ap, ◌∙◌, subst, arith, get_or, eq-eqb, ne_eqb}
 use Rattle.co_base.specs.Orders.{Side}
 use mathlib.Core.Logic.{dite}
 use native.Mathlib.Decide.{ℕ_discrete}
-use Rattle.job_model.specs.Trees.{Shape, root}
 use Rattle.job_model.specs.Floors.{IsFreshFloor}
 use Rattle.channel_model.specs.Channels.{Shape as ChannelShape}
 use Rattle.channel_model.specs.Histories.{Legal, LegalFrom}
@@ -14,8 +13,7 @@ use Rattle.worded.specs.Histories.{entries_of}
 use Rattle.worded.specs.Exchanges.{TookIn}
 use Rattle.word_rules.specs.Words as cells
 use Rattle.word_rules.specs.declared.size.ForestSize.{ForestSize}
-use Rattle.word_rules.specs.Rows.{word_of}
-use Rattle.word_rules.specs.Deeds.{history_of, store_from, store_of, job_word, word_or, DoneFrom, IsDone, Fits}
+use Rattle.word_rules.specs.Deeds.{history_of, store_from, Fits}
 use Rattle.word_rules.proofs.FirstRows.{first_words_fit}
 use Rattle.job_words.specs.Passes.{floor_of}
 
@@ -29,21 +27,6 @@ pub first_fits : (ws : List ℕ) → ((i : ℕ) → get_or ws i 0 ≡ (if i == 9
     → (size : ForestSize) (i : ℕ) → Fits size [] i (get_or ws ((8 + cells.word_count kinds) + i) 0)
 first_fits ws h kinds none size i = subst (λ (k : ChannelShape). Fits size [] i (get_or ws ((8 + cells.word_count k) + i) 0)) (sym none)
     (first_words_fit (λ j. get_or ws (9 + j) 0) (λ j. h (9 + j) ∙ ninth j) size i)
-
--- where no channel is, nothing is asked of a word
-pub no_cells : (kinds : ChannelShape) → kinds ≡ [] → (i n : ℕ) → cells.Fits kinds [] i n
-no_cells kinds none i n = record {
-  cell = λ c p lc lp e. absurd (no_channel c lc);
-  wait = λ c p lc lp e. absurd (no_channel c lc);
-  sends = λ c lc e. absurd (no_channel c lc);
-  receives = λ c lc e. absurd (no_channel c lc);
-  run = λ c lc e. absurd (no_channel c lc);
-  decided = λ c lc e. absurd (no_channel c lc);
-  mark = λ c p lc lp e. absurd (no_channel c lc);
-}
-  where
-    no_channel : (c : ℕ) → c < length kinds → ⊥
-    no_channel c lc = let e : length kinds ≡ 0 = ap length none in omega arith
 
 pub no_entries : (shape : ChannelShape) → Legal shape []
 unfolding LegalFrom

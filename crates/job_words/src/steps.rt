@@ -42,7 +42,8 @@ pub(crate) fn exchange_word(
     requires own { IsOwn forest.now pass.old who }
     requires word { word < word_count forest.now.size }
     requires doer { doer deed.now ≡ who }
-    requires may { MayEnter (IsDone (shape_of forest.now.size)) (Fits forest.now.size) doer (view_of (seen_by pass.old)) word old new deed.now }
+    requires may { MayEnter (IsDone (shape_of forest.now.size)) (Fits forest.now.size) doer (view_of (seen_by pass.old)) word old new
+        deed.now }
     ensures own { IsOwn forest.now pass.new who }
     ensures told { ExchangeAnswer who deed.now word old (seen_by pass.old) (seen_by pass.new) result }
 {

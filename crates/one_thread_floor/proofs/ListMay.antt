@@ -1,5 +1,5 @@
 -- Which acts may come now, by the lists.
-use Rattle.std.specs.Prelude.{◌≡◌, ℕ, zero, suc, ◌+◌, ◌<◌, ◌≤◌, ◌==◌, nat_le, nat_lt, Bool, true, false, not, ◌&&◌, ◌||◌, List, [], ◌∷◌, length, Option, Some, None, is_some, is_none, slice_get, refl, IfSome, if◌then◌else◌}
+use Rattle.std.specs.Prelude.{◌≡◌, ℕ, zero, suc, ◌+◌, ◌<◌, ◌≤◌, ◌==◌, nat_le, nat_lt, Bool, true, false, not, ◌&&◌, ◌||◌, List, [], ◌∷◌, length, Option, Some, None, is_some, slice_get, refl, IfSome, if◌then◌else◌}
 use Rattle.std.proofs.Common.{get_or, sym, ap, ◌∙◌, subst, arith, ne_eqb}
 use Rattle.std.proofs.lemmas.Bool.Decides.{nat_tests}
 use Rattle.std.proofs.lemmas.Option.{slice_get-get_or, get_or_from_slice_get}
@@ -8,11 +8,10 @@ use Rattle.channel_model.specs.declared.acts.Entry.{Entry}
 use Rattle.channel_model.specs.declared.acts.Kind.{Kind}
 use Rattle.channel_model.specs.declared.standing.Receiver.{Receiver}
 use Rattle.channel_model.specs.declared.standing.Standing.{Standing}
-use Rattle.channel_model.specs.Answers.{owner_of}
-use Rattle.channel_model.specs.Channels.{Shape, State, Channel, Wait, is_full}
-use Rattle.channel_model.specs.Effects.{after, is_open}
+use Rattle.channel_model.specs.Channels.{Shape, State, Channel, is_full}
+use Rattle.channel_model.specs.Effects.{after}
 use Rattle.channel_model.specs.Needs.{Needs}
-use Rattle.channel_model.specs.Steps.{stands_none, gives_place, is_offer_at, is_admissible, is_open_of, may_come}
+use Rattle.channel_model.specs.Steps.{stands_none, gives_place, is_offer_at, is_admissible, may_come}
 use Rattle.channel_model.proofs.InOrder.{OffersAscend}
 use Rattle.channel_model.proofs.Stepped.{step_taken}
 use Rattle.one_thread_floor.specs.declared.list_channel.ListChannel.{ListChannel}
@@ -125,11 +124,6 @@ offer_at_index a m v (suc i) (x ∷ xs) o h e =
     ∙ offer_at_index (x.place + 1) m v i xs o h.1 e
 
 -- ---- waits
-
-pub open_told : (who t : ℕ) (b : Bool) (x : Option Wait) → owner_of x ≡ Some t → b ≡ is_open x → is_open_of who x ≡ ((t == who) && b)
-open_told who t b None e f = cc
-open_told who t b (Some x) e f = let k : x.owner ≡ t = cc in ap (λ n. (n == who) && is_none x.resolved) k
-    ∙ ap (λ c. (t == who) && c) (sym f)
 
 -- ---- several tests at once
 

@@ -8,12 +8,12 @@ use Rattle.channel_model.specs.declared.acts.Entry.{Entry}
 use Rattle.channel_model.specs.declared.acts.Settled.{Settled}
 use Rattle.channel_model.specs.declared.standing.Resolution.{Resolution}
 use Rattle.channel_model.specs.declared.standing.Standing.{Standing}
-use Rattle.channel_model.specs.Answers.{IsOwnWait, IsReadyWait, IsResolvedWait}
+use Rattle.channel_model.specs.Answers.{IsReadyWait}
 use Rattle.channel_model.specs.Channels.{Shape, State, Wait}
 use Rattle.channel_model.specs.Effects.{after, is_open, put_channel, put_wait, put_stood, place_offer, place_receiver}
 use Rattle.channel_model.specs.Floors.{Floor, Made}
 use Rattle.channel_model.specs.Histories.{replay, Legal}
-use Rattle.channel_model.specs.Needs.{Needs, IsFirstOffer, IsOpenOf, JoinsWait, MaySettle}
+use Rattle.channel_model.specs.Needs.{Needs, IsFirstOffer, JoinsWait, MaySettle}
 use Rattle.channel_model.specs.Outcomes.{IsOutcome}
 use Rattle.channel_model.proofs.Histories.{Legal-last}
 use Rattle.one_thread_floor.specs.declared.list_channel.ListChannel.{ListChannel}
@@ -57,14 +57,6 @@ same_first_offer p v q u (o ∷ os) h k = (sym h.0 ∙ k.0, sym h.1 ∙ k.1)
 pub some_first_offer : (p v : ℕ) (os : List Standing) → IsFirstOffer p v os → 0 < length os
 some_first_offer p v [] h = absurd h
 some_first_offer p v (o ∷ os) h = omega arith
-
-pub open_own : (who : ℕ) (x : Option Wait) → IsOpenOf who x → IsOwnWait who x
-open_own who None h = h
-open_own who (Some x) h = h.0
-
-pub open_unresolved : (who : ℕ) (x : Option Wait) → IsOpenOf who x → IsResolvedWait x → ⊥
-open_unresolved who None h k = absurd h
-open_unresolved who (Some x) h k = let e : is_some x.resolved ≡ false = ap is_some h.1 in cc
 
 some_outcome : (outcome : Settled) (how : Option Resolution) → IsOutcome outcome how → is_some how ≡ true
 some_outcome outcome None h = absurd h

@@ -64,7 +64,7 @@ module _ {T : Type 0} where
     passed : SentAnswer n places who x v w (sent.Passed x) → MissedRoom n places who x v w
     came : (u : Seen T) → SentAnswer n places who x v u (sent.Full x) → WaitAnswer n who Send u w false → MissedRoom n places who x v w
 
-  -- Where it did not miss. The value was put, and it looked for those who may go on by that; or there was no room, and it waits; or the ring
+  -- If it did not miss. The value was put, and it looked for those who may go on by that; or there was no room, and it waits; or the ring
   -- is closed, or spent, and it looked for others who wait to send. A value that was not put comes back
   abbrev pub SendsSo : ℕ → ℕ → ℕ → T → Seen T → Seen T → SendOutcome T → Type 0
   SendsSo n places who x v w (sends.Sent p wakes) =

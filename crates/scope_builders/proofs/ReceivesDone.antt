@@ -45,7 +45,7 @@ use Rattle.channel_calls.proofs.ReceivesTold.{closed_as}
 use Rattle.scope_builders.specs.declared.builder.Joined.{Joined}
 use Rattle.scope_builders.specs.declared.builder.Joined.TheVariants as joined
 use Rattle.call_meaning.specs.Endings.{ClosesAtOnce}
-use Rattle.scope_builders.specs.Dones.{SignalAnswer, ClosedIsSeen, KeepsDones}
+use Rattle.scope_builders.specs.Dones.{SignalAnswer, KeepsDones}
 use Rattle.scope_builders.specs.Calls.{MayBuild, TellsBoth, ReceivesDone, IsNothing, DoneAnswer}
 use Rattle.channel_calls.proofs.Roomed.{IsRoomed, roomed, untouched}
 use Rattle.channel_calls.proofs.Untold.{untouched_told}
@@ -130,9 +130,6 @@ pub signal_as : (n : ℕ) (a : SeenOnChannels) (who : ℕ) (items : List Item) (
     → SignalAnswer n a (record { who = who; floor = c; items = items }) r
 signal_as n a who items r e h =
     subst (λ (x : Floor). SignalAnswer n a (record { who = who; floor = x; items = items }) r) (sym e) h
-
-pub seen_closed_as : (n : ℕ) (r : Result Joined Memory) {b c : Floor} → c ≡ b → ClosedIsSeen n b r → ClosedIsSeen n c r
-seen_closed_as n r e h = subst (λ (x : Floor). ClosedIsSeen n x r) (sym e) h
 
 -- the Jobs heard of the channels, and no entry was made
 pub record HaveHeard (who : ℕ) (channels : Floor) (old new : JobFloor) : Type 0 where

@@ -1,12 +1,8 @@
 -- What the calls need, and tell, after room was made.
-use Rattle.std.specs.Prelude.{◌≡◌, ℕ, ◌+◌, ◌<◌, ◌≤◌, Bool, true, List, [], length, is_some, slice_get, refl}
-use Rattle.std.proofs.Common.{sym, ap, ◌∙◌, subst}
-use Rattle.channel_model.specs.declared.acts.Kind.{Kind}
-use Rattle.channel_model.specs.Floors.{SameSetting as SameChannels}
-use Rattle.job_model.specs.Trees.{Shape}
-use Rattle.job_model.specs.Done.{done_channel}
+use Rattle.std.specs.Prelude.{◌≡◌, ℕ, true, List, [], is_some, refl}
+use Rattle.std.proofs.Common.{sym, subst}
 use Rattle.job_model.specs.Histories.{replay, Legal}
-use Rattle.job_model.specs.Floors.{Floor, SameSetting, HasRoom, MayCall, Added}
+use Rattle.job_model.specs.Floors.{Floor, HasRoom, MayCall, Added}
 use Rattle.job_model.proofs.Spans.{added_room, added_then}
 use Rattle.job_model.specs.declared.acts.JobAct.{JobAct}
 use Rattle.note_book.specs.declared.book.Item.{Item}
@@ -39,19 +35,6 @@ told_roomed {n} {a = a} {b = b} h m = told_after h.who h.items (added_room a.who
 pub added_roomed : (who n : ℕ) (acts : List JobAct) (rows : List ℕ) (a b c : Floor) → HasRoom n a b → Added who acts rows b c
     → Added who acts rows a c
 added_roomed who n acts rows a b c h k = added_then who [] acts [] rows a b c (added_room who n a b h) k
-
--- the caller may still build, where neither floor is another
-pub build_still : {base : ℕ} {a b : SeenOnBoth} → b.who ≡ a.who → SameChannels a.channels b.channels → SameSetting a.jobs b.jobs
-    → MayBuild base a → MayBuild base b
-build_still {base} {a} {b} w c j m = record {
-  of_channels = ap (λ n. b.channels.callers n) w ∙ ap (λ (f : ℕ → Bool). f a.who) c.callers ∙ m.of_channels;
-  of_jobs = ap (λ n. b.jobs.callers n) w ∙ ap (λ (f : ℕ → Bool). f a.who) j.callers ∙ m.of_jobs;
-  done = subst (λ (s : List (Kind × ℕ)). base + b.jobs.shape.rows ≤ length s) (sym c.shape)
-      (subst (λ (s : Shape). base + s.rows ≤ length a.channels.shape) (sym j.shape) m.done);
-  signals = λ r lt. ap (λ (s : List (Kind × ℕ)). slice_get s (done_channel base r)) c.shape
-      ∙ m.signals r (subst (λ (s : Shape). r < s.rows) j.shape lt);
-  few = subst (λ (s : List (Kind × ℕ)). length s ≤ 65536) (sym c.shape) m.few;
-}
 
 -- the Jobs by another name
 pub added_to : {who : ℕ} {acts : List JobAct} {rows : List ℕ} {a b c : Floor} → c ≡ b → Added who acts rows a b → Added who acts rows a c
