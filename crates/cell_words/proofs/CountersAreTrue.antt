@@ -1,5 +1,6 @@
 -- A counter that is raised says the truth, whatever others do.
 use Rattle.std.proofs.Common.{◌≡◌, ℕ, ◌+◌, ◌*◌, ◌/◌, ◌%◌, ◌<◌, ◌≤◌, max, Bool, List, Some, ◌++◌, length, sym, ◌∙◌, subst, arith}
+use Rattle.std.proofs.lemmas.Bool.Decides.{nat_tests}
 use mathlib.Core.Logic.{dite}
 use native.Mathlib.Decide.{dec_le}
 use Rattle.worded.specs.Exchanges.{MayLift}
@@ -136,7 +137,27 @@ raises_mark shape c p k v lc lp is others n added f = record {
 -- the word of a mark
 pub mark_is : (shape : Shape) (log : List Entry) (c p n : ℕ) (kept : Bool) → mark_told n ≡ Some kept → fate shape log c p ≡ Some kept
     → IsMark shape log c p n
-mark_is shape log c p n kept told is b e = is ∙ (sym told ∙ e)
+mark_is shape log c p n kept told is = record {
+  told = λ b e. is ∙ (sym told ∙ e);
+  behind = λ lt. absurd (none_told n lt kept told);
+}
+  where
+    none_told : (n : ℕ) → n < 4611686018427387904 → (kept : Bool) → mark_told n ≡ Some kept → ⊥
+    none_told n lt kept e = grind (arith, nat_tests, e)
+
+-- of places behind it
+pub behind_is : (shape : Shape) (log : List Entry) (c p to count : ℕ) → to < 2097152 → count < 2097152
+    → WereDecided shape log c (p + 1) to count → IsMark shape log c p (to * 2097152 + count)
+behind_is shape log c p to count lt few h =
+    let quotient : (to * 2097152 + count) / 2097152 ≡ to = omega (arith, few) in
+    let rest : (to * 2097152 + count) % 2097152 ≡ count = omega (arith, few) in
+    record {
+      told = λ b e. absurd (none_told (to * 2097152 + count) (omega (arith, lt, few)) b e);
+      behind = λ less. subst (λ (z : ℕ × ℕ). WereDecided shape log c (p + 1) z.0 z.1) (λ i. (sym quotient i, sym rest i)) h;
+    }
+  where
+    none_told : (n : ℕ) → n < 4611686018427387904 → (b : Bool) → mark_told n ≡ Some b → ⊥
+    none_told n less b e = grind (arith, nat_tests, e)
 
 -- the word that says of which places it is decided
 pub decided_is : (shape : Shape) (log : List Entry) (c from to count : ℕ) → from < 2097152 → count < 2097152

@@ -10,7 +10,7 @@ use Rattle.channel_model.specs.declared.acts.Why.TheVariants.{Cancelled, Revoked
 use Rattle.channel_model.specs.declared.standing.Resolution.{Resolution}
 use Rattle.channel_model.specs.declared.standing.Resolution.TheVariants as resolved
 use Rattle.channel_model.specs.declared.standing.Standing.{Standing}
-use Rattle.channel_model.specs.Channels.{Shape, Wait, kind_at, spurns}
+use Rattle.channel_model.specs.Channels.{Shape, Wait, kind_at, places_at, spurns}
 use Rattle.channel_model.specs.Histories.{replay, Legal}
 use Rattle.channel_model.specs.Laws.{NoneBelow, IsResolvedAs}
 use Rattle.word_rules.specs.declared.cell_word.CellWord.{CellWord}
@@ -27,7 +27,7 @@ use Rattle.cell_words.proofs.CountsOfOffers.{count_some, count_none, count_next,
 use Rattle.cell_words.proofs.KeptBehind.{Keeps, stands_kept}
 use Rattle.cell_words.proofs.ElementsWithRoom.{why_emptied}
 use Rattle.cell_words.proofs.PlacesDecided.{one_true, one_false, Split, split, joined, some_number, offer_fate, were_decided_more}
-use Rattle.cell_words.proofs.WalksToAdmit.{Walked, place_kept, walked_none, walked_kept, walked_gone}
+use Rattle.cell_words.proofs.WalksToAdmit.{Walked, place_kept, walked_none, walked_kept, walked_gone, within_places}
 
 pub decided_seen : (shape : Shape) (c from to count : ℕ) (v w : Seen) → Sees v w → Legal shape w.seen
     → WereDecided shape v.seen c from to count
@@ -183,6 +183,35 @@ pub decided_shorter : (shape : Shape) (log : List Entry) (c from to count : ℕ)
     → fate shape log c from ≡ Some b → WereDecided shape log c (from + 1) to (count - one_if b)
 decided_shorter shape log c from to count b lt h is d e = (kept_rest (fate shape log c) from b is d count (h (suc d) (omega arith))).0
 
+-- the last place is taken away
+same_some : (x y : Option Bool) (a b : Bool) → x ≡ y → x ≡ Some a → y ≡ Some b → a ≡ b
+same_some x y a b e g h = cc
+
+pub decided_before : (shape : Shape) (log : List Entry) (c from to last count : ℕ) (b : Bool) → from ≤ last → last + 1 ≡ to
+    → WereDecided shape log c from to count → fate shape log c last ≡ Some b → WereDecided shape log c from last (count - one_if b)
+decided_before shape log c from to last count b le next h is d e =
+    let whole : to ≡ from + suc d = omega (arith, next, e) in
+    let s = split (fate shape log c (from + d)) (kept_among (fate shape log c) from d) count (h (suc d) whole) in
+    let at : from + d ≡ last = omega (arith, e) in
+    let same = ap one_if (same_some (fate shape log c (from + d)) (fate shape log c last) s.kept b (ap (fate shape log c) at) s.last is) in
+    let sum = s.sum in
+    let rest : s.rest ≡ count - one_if b = omega (arith, same, sum) in
+    s.before ∙ ap (λ (z : ℕ). Some z) rest
+
+-- no more are counted than there are places
+pub one_most : (b : Bool) → one_if b ≤ 1
+one_most true = omega arith
+one_most false = omega arith
+
+pub kept_most : (f : ℕ → Option Bool) (from n count : ℕ) → kept_among f from n ≡ Some count → count ≤ n
+kept_most f from zero count h = let none = some_number 0 count h in omega (arith, none)
+kept_most f from (suc n) count h =
+    let s = split (f (from + n)) (kept_among f from n) count h in
+    let i = kept_most f from n s.rest s.before in
+    let one = one_most s.kept in
+    let sum = s.sum in
+    omega (arith, i, one, sum)
+
 -- ---- how many stand
 
 module _ (shape : Shape) (c low : ℕ) (log : List Entry) (l : Legal shape log) where
@@ -291,6 +320,65 @@ module _ (shape : Shape) (c low : ℕ) (log : List Entry) (l : Legal shape log) 
       let is : low + (end - low) ≡ end = omega arith in
       subst (λ (z : ℕ). length (gather (stands log c) z) < most) is (omega arith)
 
+  -- behind a place below which no more than so many stand, no more stand than so many more
+  pub upper_behind : (from base : ℕ) → length (gather (stands log c) from) ≤ base → (n count : ℕ)
+      → kept_among (fate shape log c) from n ≡ Some count → length (gather (stands log c) (from + n)) ≤ base + count
+  upper_behind from base below zero count h =
+      let none = some_number 0 count h in
+      let at : from ≡ from + 0 = omega arith in
+      subst (λ (z : ℕ). length (gather (stands log c) z) ≤ base + count) at (omega (arith, below, none))
+  upper_behind from base below (suc n) count h =
+      let s = split (fate shape log c (from + n)) (kept_among (fate shape log c) from n) count h in
+      let i = upper_behind from base below n s.rest s.before in
+      let at : (from + n) + 1 ≡ from + suc n = omega arith in
+      subst (λ (z : ℕ). length (gather (stands log c) z) ≤ base + count) at (go s i s.kept refl)
+    where
+      go : (s : Split (fate shape log c (from + n)) (kept_among (fate shape log c) from n) count)
+          → length (gather (stands log c) (from + n)) ≤ base + s.rest → (b : Bool) → s.kept ≡ b
+          → length (gather (stands log c) ((from + n) + 1)) ≤ base + count
+      go s i true e =
+          let m = count_next (stands log c) (from + n) (base + s.rest) i in
+          let one = one_true s.kept e in
+          let sum = s.sum in
+          omega (arith, m, one, sum)
+      go s i false e =
+          let m = count_none (stands log c) (from + n)
+          (gone_cell (was_over shape log c (from + n)) (replay log).waits (from + n) (cell_of log c (from + n)) (s.last
+          ∙ ap (λ (z : Bool). Some z) e)) in
+          let one = one_false s.kept e in
+          let sum = s.sum in
+          omega (arith, m, i, one, sum)
+
+  -- while one stands before them, so many more stand; and stood at a moment at which all that stand now did
+  pub lower_behind : is_some (stands log c low) ≡ true → (early : ℕ → Option Standing) → (from end base : ℕ) → low ≤ from
+      → ((p : ℕ) → p < end → is_some (stands log c p) ≡ true → is_some (early p) ≡ true) → base ≤ length (gather early from)
+      → (n count : ℕ) → from + n ≤ end
+      → kept_among (fate shape log c) from n ≡ Some count → base + count ≤ length (gather early (from + n))
+  lower_behind st early from end base le stood below zero count within h =
+      let none = some_number 0 count h in
+      let at : from ≡ from + 0 = omega arith in
+      subst (λ (z : ℕ). base + count ≤ length (gather early z)) at (omega (arith, below, none))
+  lower_behind st early from end base le stood below (suc n) count within h =
+      let s = split (fate shape log c (from + n)) (kept_among (fate shape log c) from n) count h in
+      let i = lower_behind st early from end base le stood below n s.rest (omega (arith, within)) s.before in
+      let at : (from + n) + 1 ≡ from + suc n = omega arith in
+      subst (λ (z : ℕ). base + count ≤ length (gather early z)) at (go s i s.kept refl)
+    where
+      go : (s : Split (fate shape log c (from + n)) (kept_among (fate shape log c) from n) count)
+          → base + s.rest ≤ length (gather early (from + n)) → (b : Bool) → s.kept ≡ b
+          → base + count ≤ length (gather early ((from + n) + 1))
+      go s i true e =
+          let m = count_some early (from + n) (base + s.rest) i (stood (from + n) (omega (arith, within))
+          (kept_stands (from + n) (omega (arith, le)) st (cell_of log c (from + n)) refl (s.last ∙ ap (λ (z : Bool). Some z) e))) in
+          let one = one_true s.kept e in
+          let sum = s.sum in
+          omega (arith, m, one, sum)
+      go s i false e =
+          let m = count_up early (from + n) 1 ((from + n) + 1) refl in
+          let one = one_false s.kept e in
+          let sum = s.sum in
+          omega (arith, m, i, one, sum)
+
   -- a walk for an offer to admit has passed them
   walked_among : ((n : ℕ) → spurns (kind_at shape c) n ≡ false) → NoneBelow 0 low (at_channel log c) → (n count : ℕ)
       → kept_among (fate shape log c) low n ≡ Some count → Walked c low (low + n) count log
@@ -330,3 +418,20 @@ module _ (shape : Shape) (c low : ℕ) (log : List Entry) (l : Legal shape log) 
       let is : low + (to - low) ≡ to = omega arith in
       subst (λ (z : ℕ). Walked c low z count log) is (walked_among never below (to - low) count
       (subst (λ (z : ℕ). kept_among (fate shape log c) z (to - low) ≡ Some count) first (h (to - low) at)))
+
+-- places of which is decided are places of the channel
+pub decided_within : (shape : Shape) (log : List Entry) (c from to count : ℕ) → Legal shape log → from < to
+    → WereDecided shape log c from to count → to ≤ places_at shape c
+decided_within shape log c from to count l lt h =
+    let whole : to ≡ from + suc (to - (from + 1)) = omega (arith, lt) in
+    let s = split (fate shape log c (from + (to - (from + 1)))) (kept_among (fate shape log c) from (to - (from + 1))) count
+    (h (suc (to - (from + 1))) whole) in
+    let g = decided_given shape c from log l (from + (to - (from + 1))) s.kept s.last in
+    within_places shape c to log l (omega (arith, g, lt))
+
+-- at no more of them an element was kept
+pub decided_most : (shape : Shape) (log : List Entry) (c from to count : ℕ) → from ≤ to → WereDecided shape log c from to count
+    → count + from ≤ to
+decided_most shape log c from to count le h =
+    let m = kept_most (fate shape log c) from (to - from) count (h (to - from) (omega (arith, le))) in
+    omega (arith, m, le)

@@ -1,9 +1,7 @@
 -- An element that was put while fewer stood than the channel keeps: nobody spurns it, so it stands while an offer stands before it.
-use Rattle.std.proofs.Common.{◌≡◌, ◌⊎◌, ℕ, zero, suc, ◌+◌, ◌-◌, ◌<◌, ◌≤◌, ◌==◌, nat_le, Bool, true, false, true≢false, not, ◌&&◌, List, [], ◌∷◌, ◌++◌, length, if◌then◌else◌, Option, Some, None, is_some, sym, refl, ap, ◌∙◌, subst, ⊎_elim, inl, inr, arith, eq-eqb, ne_eqb}
+use Rattle.std.proofs.Common.{◌≡◌, ◌⊎◌, ℕ, ◌<◌, ◌≤◌, ◌==◌, nat_le, Bool, true, false, true≢false, not, ◌&&◌, List, [], ◌∷◌, ◌++◌, length, if◌then◌else◌, Option, Some, None, sym, refl, ap, ◌∙◌, subst, ⊎_elim, inl, inr, arith, eq-eqb, ne_eqb}
 use Rattle.std.proofs.lemmas.Bool.{eqb-true}
 use Rattle.std.proofs.lemmas.Bool.Decides.{nat_tests}
-use mathlib.Core.Logic.{dite}
-use native.Mathlib.Decide.{ℕ_discrete, dec_le}
 use Rattle.channel_model.specs.declared.acts.Act.{Act}
 use Rattle.channel_model.specs.declared.acts.Act.TheVariants.{Hand, Put, Offer, Await, Take, Admit, Drop, Spurn, Close, Void, Drain, WakeClosed, Withdraw, Settle}
 use Rattle.channel_model.specs.declared.acts.Entry.{Entry}
@@ -22,13 +20,13 @@ use Rattle.channel_model.proofs.Histories.{replay_push, LegalFrom-parts}
 use Rattle.channel_model.proofs.Sound.{Sound}
 use Rattle.word_rules.specs.Cells.{Cell, free, receiver, offer, buffered, emptied, closed_by, voided_by, set_cell, standing, emptied_if, mark, Board, step_board, board_from, board_of, blank, cell_of, gather, is_used}
 use Rattle.word_rules.specs.Words.{kept_put, kept_in, was_over, fate}
-use Rattle.cell_words.specs.Seen.{Seen, Sees, Makes, at_channel}
+use Rattle.cell_words.specs.Seen.{Seen, Makes, at_channel}
 use Rattle.cell_words.specs.Answers.{stands, WasPut}
 use Rattle.cell_words.proofs.ListsOfCells.{Tied, by_spot, cell_here}
 use Rattle.cell_words.proofs.CellsGiveLists.{board_lasts, board_state}
 use Rattle.cell_words.proofs.CellsLast.{kept_more}
-use Rattle.cell_words.proofs.CellsTellFacts.{now, tied_now, used_given}
-use Rattle.cell_words.proofs.CountsOfOffers.{cell_by_none, gone_more, count_some, count_less, count_up}
+use Rattle.cell_words.proofs.CellsTellFacts.{tied_now, used_given}
+use Rattle.cell_words.proofs.CountsOfOffers.{cell_by_none, gone_more, count_less}
 use Rattle.cell_words.proofs.EntriesOnOneWord.{cells_push}
 use Rattle.cell_words.proofs.ExchangesTell.{before_legal}
 use Rattle.cell_words.proofs.WalksToAdmit.{none_before}

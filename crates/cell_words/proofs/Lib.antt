@@ -39,5 +39,6 @@ pub mod WalksToAdmit
 pub mod RunsOfKeptPlaces
 pub mod ElementsWithRoom
 pub mod CountsOfDecided
+pub mod CountsBehind
 pub mod ClausesPlaced
 pub mod StandsAtPlaces

@@ -29,7 +29,7 @@ all_free shape i = record {
   receives = λ c lc e. none_below_start empty;
   run = λ c lc e p le lt. absurd (omega (arith, lt));
   decided = λ c lc e. decided_none shape [] c ((0 / 2097152) % 2097152) (0 / 4398046511104) (0 % 2097152) (omega arith) (omega arith);
-  mark = λ c p lc lp e b told. cc;
+  mark = λ c p lc lp e. record { told = λ b told. cc; behind = λ lt d same. absurd (omega (arith, same)) };
 }
 
 -- ---- the numbers of first cells

@@ -1,5 +1,5 @@
 -- A place of which is decided whether its element was kept stays as it was decided, and so does a count of such places.
-use Rattle.std.proofs.Common.{◌≡◌, ◌⊎◌, ℕ, zero, suc, ◌+◌, ◌==◌, Bool, true, false, true≢false, not, List, ◌++◌, if◌then◌else◌, Option, Some, None, sym, refl, ap, ◌∙◌, subst, ⊎_elim, inl, inr, arith, eq-eqb}
+use Rattle.std.proofs.Common.{◌≡◌, ◌⊎◌, ℕ, zero, suc, ◌+◌, ◌==◌, Bool, true, false, true≢false, not, List, ◌++◌, if◌then◌else◌, Option, Some, None, sym, refl, ap, ◌∙◌, subst, ⊎_elim, inl, inr, arith, eq-eqb, ◌/◌, ◌%◌}
 use Rattle.std.proofs.lemmas.Bool.{eqb-true}
 use Rattle.co_base.specs.declared.names.WaitId.{WaitId}
 use Rattle.channel_model.specs.declared.acts.Entry.{Entry}
@@ -186,11 +186,6 @@ fate_more shape c p b xs ys l (emptied v) e h =
 fate_more shape c p b xs ys l (closed_by v) e h = cc
 fate_more shape c p b xs ys l (voided_by v) e h = cc
 
--- so does what a mark says
-pub mark_more : (shape : Shape) (c p n : ℕ) (xs ys : List Entry) → Legal shape (xs ++ ys) → IsMark shape xs c p n
-    → IsMark shape (xs ++ ys) c p n
-mark_more shape c p n xs ys l h b e = fate_more shape c p b xs ys l (cell_of xs c p) refl (h b e)
-
 -- ---- counts of them
 
 -- the last place, and those before it
@@ -231,6 +226,14 @@ pub were_decided_more : (shape : Shape) (c from to count : ℕ) (xs ys : List En
     → WereDecided shape xs c from to count → WereDecided shape (xs ++ ys) c from to count
 were_decided_more shape c from to count xs ys l h d e = kept_among_more (fate shape xs c) (fate shape (xs ++ ys) c)
     (λ q b k. fate_more shape c q b xs ys l (cell_of xs c q) refl k) from d count (h d e)
+
+-- so does what a mark says
+pub mark_more : (shape : Shape) (c p n : ℕ) (xs ys : List Entry) → Legal shape (xs ++ ys) → IsMark shape xs c p n
+    → IsMark shape (xs ++ ys) c p n
+mark_more shape c p n xs ys l h = record {
+  told = λ b e. fate_more shape c p b xs ys l (cell_of xs c p) refl (h.told b e);
+  behind = λ lt. were_decided_more shape c (p + 1) (n / 2097152) (n % 2097152) xs ys l (h.behind lt);
+}
 
 -- nothing is counted yet
 pub decided_none : (shape : Shape) (log : List Entry) (c from to count : ℕ) → from ≡ to → count ≡ 0

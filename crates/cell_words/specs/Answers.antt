@@ -33,7 +33,7 @@ use Rattle.cell_words.specs.declared.found.Removal.TheVariants as removal
 use Rattle.cell_words.specs.declared.found.Search.{Search}
 use Rattle.cell_words.specs.declared.found.Search.TheVariants as search
 use Rattle.cell_words.specs.declared.found.Waiter.{Waiter}
-use Rattle.word_rules.specs.Cells.{receiver, offer, buffered, emptied, spot, cell_of, standing}
+use Rattle.word_rules.specs.Cells.{receiver, offer, buffered, emptied, spot, cell_of, standing, gather}
 use Rattle.word_rules.specs.Codes.{packed_cell, packed_wait}
 use Rattle.cell_words.specs.Removals.{removal_act}
 use Rattle.word_rules.specs.Words.{number, IsCell, PartyFits, plain_word, party_word, word_of_cell, CellFits, word_of_wait, WaitFits, WereKept, Fits, maker}
@@ -221,6 +221,13 @@ EmptyAnswer by who c p v old new false = Sees old new × NoneBelow 0 (p + 1) (at
 -- the offer that stands at a place
 abbrev pub stands : List Entry → ℕ → ℕ → Option Standing
 stands log c p = standing (replay log).waits p (cell_of log c p)
+
+-- what a count that looks at some places, and knows of the others what is decided of them, has come to up to a place: no more stand there
+-- now; and so many did at the first moment, if an offer stands at the first place later on
+pub record CountedPast (shape : Shape) (c low place count : ℕ) (first v : Seen) : Type 0 where
+  pub upper : length (gather (stands v.seen c) place) ≤ count
+  pub lower : (w : Seen) → Sees v w → Legal shape w.seen → is_some (stands w.seen c low) ≡ true
+      → count ≤ length (gather (stands first.seen c) place)
 
 -- more stand than the channel keeps, if it drops its oldest; or none stands at this place any more
 abbrev pub IsOver : Shape → ℕ → ℕ → List Entry → Type 0

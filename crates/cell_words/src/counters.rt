@@ -12,18 +12,18 @@ use crate::steps::{lift_word, load_word};
 use co_base::{ChannelId, Place, Tag};
 
 /// The first of the 16 words of a channel. Its run is the next one, its receive counter 8 words on.
-pub(crate) fn send_word(hub: &Hub, c: ChannelId) -> usize
+pub(crate) fn send_counter(hub: &Hub, c: ChannelId) -> usize
     requires { c < length (shape_of hub.now) }
     ensures { result ≡ send_number (shape_of hub.now) c }
 {
     2 * (hub.cells as usize) + 16 * (c as usize)
 }
 
-fn receive_word(hub: &Hub, c: ChannelId) -> usize
+fn receive_counter(hub: &Hub, c: ChannelId) -> usize
     requires { c < length (shape_of hub.now) }
     ensures { result ≡ receive_number (shape_of hub.now) c }
 {
-    send_word(hub, c) + 8
+    send_counter(hub, c) + 8
 }
 
 /// A place below which no receiver stands.
@@ -34,7 +34,7 @@ pub fn sends_from(hub: &Hub, pass: &mut Pass, who: Tag, c: ChannelId) -> Place
     ensures sees { Sees (seen_by pass.old) (seen_by pass.new) }
     ensures low { NoneBelow result 0 (at_channel (seen_by pass.new).seen c) }
 {
-    load_word(hub, pass, who, send_word(hub, c)) as Place
+    load_word(hub, pass, who, send_counter(hub, c)) as Place
 }
 
 /// Says that no receiver stands below a place, if that is two places or more past where the caller began to look.
@@ -46,7 +46,7 @@ pub fn raise_sends(hub: &Hub, pass: &mut Pass, who: Tag, c: ChannelId, from: Pla
     ensures same { seen_by pass.new ≡ seen_by pass.old }
 {
     if place >= 2 && place - 2 >= from {
-        lift_word(hub, pass, who, send_word(hub, c), place as u64);
+        lift_word(hub, pass, who, send_counter(hub, c), place as u64);
     }
 }
 
@@ -58,7 +58,7 @@ pub fn receives_from(hub: &Hub, pass: &mut Pass, who: Tag, c: ChannelId) -> Plac
     ensures sees { Sees (seen_by pass.old) (seen_by pass.new) }
     ensures low { NoneBelow 0 result (at_channel (seen_by pass.new).seen c) }
 {
-    load_word(hub, pass, who, receive_word(hub, c)) as Place
+    load_word(hub, pass, who, receive_counter(hub, c)) as Place
 }
 
 /// Says that no offer stands below a place, if that is two places or more past where the caller began to look.
@@ -70,7 +70,7 @@ pub fn raise_receives(hub: &Hub, pass: &mut Pass, who: Tag, c: ChannelId, from: 
     ensures same { seen_by pass.new ≡ seen_by pass.old }
 {
     if place >= 2 && place - 2 >= from {
-        lift_word(hub, pass, who, receive_word(hub, c), place as u64);
+        lift_word(hub, pass, who, receive_counter(hub, c), place as u64);
     }
 }
 
@@ -85,7 +85,7 @@ fn run_word(hub: &Hub, c: ChannelId) -> usize
     requires { c < length (shape_of hub.now) }
     ensures { result ≡ run_number (shape_of hub.now) c }
 {
-    send_word(hub, c) + 1
+    send_counter(hub, c) + 1
 }
 
 /// The run as its word has it: `to * 2^32 + from`.

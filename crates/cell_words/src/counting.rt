@@ -1,20 +1,21 @@
 //! How many offers stand, by one walk: each that is found later stood at the beginning, since who is gone does not come back.
-ghost use Rattle.std.specs.Prelude.{◌≡◌, ◌<◌, ◌≤◌, MatchBool, true, false, length, None, is_some};
+ghost use Rattle.std.specs.Prelude.{◌≡◌, ◌+◌, ◌<◌, ◌≤◌, ℕ, MatchBool, true, false, length, None, is_some};
 ghost use Rattle.channel_model.specs.Channels.{kind_at, places_at, is_full, suspends};
-ghost use Rattle.channel_model.specs.Histories.{replay};
+ghost use Rattle.channel_model.specs.Histories.{replay, Legal};
 ghost use Rattle.channel_model.specs.Laws.{NoneBelow};
 ghost use Rattle.channel_model.specs.Answers.{IsTrimmed, StandsWithRoom};
 ghost use Rattle.word_rules.specs.Cells.{gather};
-ghost use Rattle.word_rules.specs.Words.{IsCell};
+ghost use Rattle.word_rules.specs.Words.{IsCell, WereDecided, one_if};
 ghost use Rattle.cell_words.specs.Hubs.{shape_of, seen_by, IsOwn};
-ghost use Rattle.cell_words.specs.Seen.{Sees, at_channel};
-ghost use Rattle.cell_words.specs.Answers.{stands, IsOver, WasTooMany};
+ghost use Rattle.cell_words.specs.Seen.{Seen, Sees, at_channel};
+ghost use Rattle.cell_words.specs.Answers.{stands, CountedPast, IsOver, WasTooMany};
 
 use crate::cells::{kind_of, load_cell, load_wait};
 use crate::counters::{has_from, kept_run, raise_receives, receives_from};
-use crate::decided::{decided_up_to, tells_enough, tells_fewer};
+use crate::decided::{Decided, begun_at, decided_up_to, tells_enough, tells_fewer, up_to};
 use crate::hub::Hub;
 use crate::looks::{holder_of, lets_stand};
+use crate::marks::{behind_at, say_behind};
 use crate::pass::Pass;
 use crate::resolving::wait_cell;
 use channel_model::Kind;
@@ -24,6 +25,9 @@ use word_rules::CellState;
 // How often who counts looks again for a place of which is not decided yet, before it counts what stands: whoever put an element there
 // is about to say so.
 const LOOKS: u32 = 32;
+
+// How many places may have been given out behind that one, for its sender to be about to say so.
+const NEAR: u32 = 4;
 
 /// Whether an offer stands at a place: true if it stood at the beginning, false if none stands any more.
 pub(crate) fn stands_at(hub: &Hub, pass: &mut Pass, who: Tag, c: ChannelId, place: Place) -> bool
@@ -67,7 +71,7 @@ fn offers_from(hub: &Hub, pass: &mut Pass, who: Tag, c: ChannelId, end: Place) -
 
 /// Whether so many offers stand below `end`, if none stands below `from`: true if they did at the beginning, false if fewer do at
 /// the end.
-fn count_from(
+fn enough_from(
     hub: &Hub,
     pass: &mut Pass,
     who: Tag,
@@ -103,8 +107,131 @@ fn count_from(
     count >= most
 }
 
-/// The same by the places of which is decided whether their element was kept: so neither a gap that an offer left nor an element that was
-/// one too many ends a count.
+// One more, if one stood.
+fn with_one(count: u32, stood: bool) -> u32
+    requires { count < 4294967295 }
+    ensures { result ≡ count + one_if stood }
+{
+    if stood { count + 1 } else { count }
+}
+
+// What a count has come to, and up to which place.
+#[derive(Clone, Copy)]
+struct CountedTo {
+    to: Place,
+    count: u32,
+}
+
+/// Goes on with a count at a place of which is not decided, by a look at its cell, and behind it as far as it is decided. It says so by
+/// the mark of that place, so that the next one who counts begins where this one ended.
+fn count_one(
+    hub: &Hub,
+    pass: &mut Pass,
+    who: Tag,
+    c: ChannelId,
+    past: CountedTo,
+    end: Place,
+) -> CountedTo
+    requires own { IsOwn hub.now pass.old who }
+    requires at { IsCell (shape_of hub.now) c end }
+    requires given { end ≤ (at_channel (seen_by pass.old).seen c).next }
+    requires before { (past.count ≤ past.to) × (past.to < end) }
+    ensures own { IsOwn hub.now pass.new who }
+    ensures sees { Sees (seen_by pass.old) (seen_by pass.new) }
+    ensures past { (result.count ≤ result.to) × (past.to < result.to) × (result.to ≤ end) }
+    ensures counted { (low : ℕ) (first : Seen) → low ≤ past.to → Sees first (seen_by pass.old) → Legal (shape_of hub.now) first.seen
+        → end ≤ (at_channel first.seen c).next
+        → CountedPast (shape_of hub.now) c low past.to past.count first (seen_by pass.old)
+        → CountedPast (shape_of hub.now) c low result.to result.count first (seen_by pass.new) }
+{
+    let stood = stands_at(hub, pass, who, c, past.to);
+    let behind = behind_at(hub, pass, who, c, past.to);
+    let more = up_to(hub, pass, who, c, behind, end);
+    say_behind(hub, pass, who, c, past.to, behind, more);
+    CountedTo {
+        to: more.to,
+        count: with_one(past.count, stood) + more.count,
+    }
+}
+
+/// What such a count comes to, at the end or where it is enough, if it begins with the places that are known, and none stands below them.
+fn count_ranges(
+    hub: &Hub,
+    pass: &mut Pass,
+    who: Tag,
+    c: ChannelId,
+    known: Decided,
+    end: Place,
+    most: u32,
+) -> CountedTo
+    requires own { IsOwn hub.now pass.old who }
+    requires at { IsCell (shape_of hub.now) c end }
+    requires given { end ≤ (at_channel (seen_by pass.old).seen c).next }
+    requires within { (known.from ≤ end) × (known.from ≤ known.to) }
+    requires low { NoneBelow 0 known.from (at_channel (seen_by pass.old).seen c) }
+    requires decided { WereDecided (shape_of hub.now) (seen_by pass.old).seen c known.from known.to known.count }
+    ensures own { IsOwn hub.now pass.new who }
+    ensures sees { Sees (seen_by pass.old) (seen_by pass.new) }
+    ensures whole { (result.to ≤ end) × (result.count < most → result.to ≡ end) }
+    ensures counted { CountedPast (shape_of hub.now) c known.from result.to result.count (seen_by pass.old) (seen_by pass.new) }
+{
+    let begun = up_to(hub, pass, who, c, known, end);
+    let mut past = CountedTo {
+        to: begun.to,
+        count: begun.count,
+    };
+    while past.to < end {
+        if past.count >= most {
+            return past;
+        }
+        past = count_one(hub, pass, who, c, past, end);
+    }
+    past
+}
+
+/// Whether so many offers stand below `end`, if none stands below `low`: by ranges of places of which is decided, and a look at each cell
+/// between them.
+fn count_past(
+    hub: &Hub,
+    pass: &mut Pass,
+    who: Tag,
+    c: ChannelId,
+    known: Decided,
+    low: Place,
+    end: Place,
+    most: u32,
+) -> bool
+    requires own { IsOwn hub.now pass.old who }
+    requires at { IsCell (shape_of hub.now) c end }
+    requires given { end ≤ (at_channel (seen_by pass.old).seen c).next }
+    requires from { low < end }
+    requires low { NoneBelow 0 low (at_channel (seen_by pass.old).seen c) }
+    requires decided { WereDecided (shape_of hub.now) (seen_by pass.old).seen c known.from known.to known.count }
+    ensures own { IsOwn hub.now pass.new who }
+    ensures sees { Sees (seen_by pass.old) (seen_by pass.new) }
+    ensures count { MatchBool result
+        (most ≤ length (gather (stands (seen_by pass.old).seen c) end))
+        (length (gather (stands (seen_by pass.new).seen c) end) < most) }
+{
+    let begun = begun_at(known, low, u32::MAX);
+    let past = count_ranges(hub, pass, who, c, begun, end, most);
+    if past.count < most {
+        return false;
+    }
+    // While the first stands, so do all that were kept.
+    if stands_at(hub, pass, who, c, low) {
+        return true;
+    }
+    enough_from(hub, pass, who, c, low, end, most)
+}
+
+// Whether many places are behind those of which is decided: then whoever put an element at the first of the others is not about to say so.
+fn is_far(known: Decided, end: Place) -> bool {
+    known.to > end || end - known.to > NEAR
+}
+
+/// Whether so many offers stand below `end`, if none stands below `low`, by the places of which is decided whether their element was
+/// kept: so neither a gap that an offer left nor an element that was one too many ends a count.
 fn count_decided(
     hub: &Hub,
     pass: &mut Pass,
@@ -135,8 +262,12 @@ fn count_decided(
         if tells_enough(known, low, end, most, stood) {
             return true;
         }
+        if is_far(known, end) {
+            return count_past(hub, pass, who, c, known, low, end, most);
+        }
     }
-    count_from(hub, pass, who, c, low, end, most)
+    let known = decided_up_to(hub, pass, who, c, low, end);
+    count_past(hub, pass, who, c, known, low, end, most)
 }
 
 /// Whether so many offers stand below a place of a channel on which a send may wait: true if they did at the beginning, false if fewer do
@@ -261,7 +392,7 @@ pub fn is_over(
     if has_from(run, first, most + 1) {
         return true;
     }
-    count_from(hub, pass, who, c, first, mine + 1, most + 1)
+    enough_from(hub, pass, who, c, first, mine + 1, most + 1)
 }
 
 /// Whether the offer at `mine` was one too many when it was placed, if the channel does not keep its latest: true if at the beginning so

@@ -2,14 +2,14 @@
 //! no count. A word of the channel has such places, and each who counts moves it on.
 ghost use Rattle.std.specs.Prelude.{◌≡◌, ◌⊎◌, ◌+◌, ◌-◌, ◌<◌, ◌≤◌, ℕ, Bool, List, MatchBool, ⊤, true, false, length, Some};
 ghost use Rattle.channel_model.specs.declared.acts.Entry.{Entry as AnEntry};
-ghost use Rattle.channel_model.specs.Channels.{Shape, kind_at, spurns};
+ghost use Rattle.channel_model.specs.Channels.{Shape, kind_at, places_at, spurns};
 ghost use Rattle.word_rules.specs.Words.{decided_number, one_if, fate, IsCell, WereDecided};
 ghost use Rattle.cell_words.specs.Hubs.{shape_of, seen_by, IsOwn};
 ghost use Rattle.cell_words.specs.Looks.{kept_told};
 ghost use Rattle.cell_words.specs.Seen.{Sees};
 
 use crate::cells::{kind_of, load_cell, load_wait};
-use crate::counters::send_word;
+use crate::counters::send_counter;
 use crate::hub::Hub;
 use crate::looks::holder_of;
 use crate::marks::mark_at;
@@ -31,7 +31,7 @@ fn decided_word(hub: &Hub, c: ChannelId) -> usize
     requires { c < length (shape_of hub.now) }
     ensures { result ≡ decided_number (shape_of hub.now) c }
 {
-    send_word(hub, c) + 2
+    send_counter(hub, c) + 2
 }
 
 // These places as their word has them: `to * 2^42 + from * 2^21 + count`.
@@ -222,6 +222,7 @@ fn go_on(hub: &Hub, pass: &mut Pass, who: Tag, c: ChannelId, known: Decided, end
     requires decided { WereDecided (shape_of hub.now) (seen_by pass.old).seen c known.from known.to known.count }
     ensures own { IsOwn hub.now pass.new who }
     ensures sees { Sees (seen_by pass.old) (seen_by pass.new) }
+    ensures within { (result.from ≡ known.from) × (known.to ≤ result.to) × (known.to ≤ end → result.to ≤ end) }
     ensures decided { WereDecided (shape_of hub.now) (seen_by pass.new).seen c result.from result.to result.count }
 {
     if known.to < known.from || end <= known.to {
@@ -253,6 +254,69 @@ fn go_on(hub: &Hub, pass: &mut Pass, who: Tag, c: ChannelId, known: Decided, end
         to: end,
         count,
     }
+}
+
+// These places without those from the end on, of which others who count have told; none if of one of them it is not told.
+fn drop_back(
+    hub: &Hub,
+    pass: &mut Pass,
+    who: Tag,
+    c: ChannelId,
+    known: Decided,
+    end: Place,
+) -> Decided
+    requires own { IsOwn hub.now pass.old who }
+    requires at { (c < length (shape_of hub.now)) × (known.to ≤ places_at (shape_of hub.now) c) }
+    requires within { (known.from ≤ end) × (end ≤ known.to) }
+    requires decided { WereDecided (shape_of hub.now) (seen_by pass.old).seen c known.from known.to known.count }
+    ensures own { IsOwn hub.now pass.new who }
+    ensures sees { Sees (seen_by pass.old) (seen_by pass.new) }
+    ensures within { (result.from ≡ known.from) × (result.from ≤ result.to) × (result.to ≤ end) }
+    ensures decided { WereDecided (shape_of hub.now) (seen_by pass.new).seen c result.from result.to result.count }
+{
+    let mut count = known.count;
+    for passed in 0..known.to - end {
+        let fate = fate_at(hub, pass, who, c, known.to - 1 - passed);
+        match fate {
+            None => {
+                return Decided {
+                    from: known.from,
+                    to: known.from,
+                    count: 0,
+                };
+            }
+            Some(kept) => count = less_one(count, kept),
+        }
+    }
+    Decided {
+        from: known.from,
+        to: end,
+        count,
+    }
+}
+
+/// The places of these that are before the end, and all further ones there of which it is decided.
+pub(crate) fn up_to(
+    hub: &Hub,
+    pass: &mut Pass,
+    who: Tag,
+    c: ChannelId,
+    known: Decided,
+    end: Place,
+) -> Decided
+    requires own { IsOwn hub.now pass.old who }
+    requires at { IsCell (shape_of hub.now) c end }
+    requires within { (known.from ≤ end) × (known.from ≤ known.to) }
+    requires decided { WereDecided (shape_of hub.now) (seen_by pass.old).seen c known.from known.to known.count }
+    ensures own { IsOwn hub.now pass.new who }
+    ensures sees { Sees (seen_by pass.old) (seen_by pass.new) }
+    ensures within { (result.from ≡ known.from) × (result.from ≤ result.to) × (result.to ≤ end) }
+    ensures decided { WereDecided (shape_of hub.now) (seen_by pass.new).seen c result.from result.to result.count }
+{
+    if known.to > end {
+        return drop_back(hub, pass, who, c, known, end);
+    }
+    go_on(hub, pass, who, c, known, end)
 }
 
 /// Of which places from `low` on, and before `end`, it is decided; they begin there, unless that cannot be told.

@@ -83,14 +83,15 @@
 //!
 //! **The marks.** In a channel that does not keep its latest an element is kept for good if it was put while fewer stood than are kept:
 //! nobody spurns it. Who put it says so by the mark of its place, if it had counted that few before; and who spurned its own element says
-//! that. An element is marked by nobody that was put when the channel looked full, and was left because others had received meanwhile: a
-//! count ends at its place until it is received, and goes on by looking at each cell behind. Nor is one marked whose sender has not said
-//! so yet: who counts looks a few times more, and then at each cell too.
+//! that. Nobody says so of an element that was put when the channel looked full, and was left because others had received meanwhile; and
+//! of one whose sender has not said so yet, who counts looks a few times more. The mark of such a place has the decided places behind it,
+//! as the channel's word has those from the first that stands on. So a count looks at the cells of these places alone, and goes from each
+//! to the next by its mark, which it moves on as far as it is decided. What a sender says of its own place is the larger number, and stays.
 //!
 //! **The table.** A hub stands on the first part of a table with two histories (`joined_words`), whose second part is for Jobs
 //! (`word_rules`). Eight words that stay 0 come first; so a step adds 8 to the number of its word, and passes meet by loads of the first
-//! word. A hub alone has a table without rows. One that was made with rows shares its table with a forest on the second part; then its first
-//! pass gives out the tags of both, and knows that nobody acted under one that it has not given out.
+//! word. A hub alone has a table without rows. One that was made with rows shares its table with a forest on the second part; then its
+//! first pass gives out the tags of both, and knows that nobody acted under one that it has not given out.
 //!
 //! **The history.** It is that of the channels, a list of entries; all words are a function of it, except for the counters, the run, the
 //! decided places and the marks (`Words` of `word_rules` has it).

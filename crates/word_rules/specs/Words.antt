@@ -1,5 +1,5 @@
 -- The words that a history gives.
-use Rattle.std.specs.Prelude.{◌≡◌, ℕ, zero, suc, ◌+◌, ◌*◌, ◌/◌, ◌%◌, ◌<◌, ◌≤◌, ◌==◌, Bool, true, false, not, List, [], ◌∷◌, length, if◌then◌else◌, Option, Some, None}
+use Rattle.std.specs.Prelude.{◌≡◌, ℕ, zero, suc, ◌+◌, ◌*◌, ◌/◌, ◌%◌, ◌<◌, ◌≤◌, ◌==◌, nat_le, Bool, true, false, not, List, [], ◌∷◌, length, if◌then◌else◌, Option, Some, None}
 use Rattle.co_base.specs.declared.names.WaitId.{WaitId}
 use Rattle.channel_model.specs.declared.acts.Entry.{Entry}
 use Rattle.channel_model.specs.declared.acts.Settled.{Settled}
@@ -259,15 +259,14 @@ WereDecided shape log c from to count = (d : ℕ) → to ≡ from + d → kept_a
 abbrev pub AreDecided : Shape → List Entry → ℕ → ℕ → Type 0
 AreDecided shape log c n = WereDecided shape log c ((n / 2097152) % 2097152) (n / 4398046511104) (n % 2097152)
 
--- the number n of a mark says whether the element was kept; nothing at first
+-- the number n of a mark says from 2^62 on whether the element was kept
 abbrev pub mark_told : ℕ → Option Bool
-mark_told zero = None
-mark_told (suc zero) = Some true
-mark_told (suc (suc n)) = Some false
+mark_told n = if nat_le 4611686018427387904 n then Some (n == 4611686018427387904) else None
 
--- and says the truth
-abbrev pub IsMark : Shape → List Entry → ℕ → ℕ → ℕ → Type 0
-IsMark shape log c p n = (b : Bool) → mark_told n ≡ Some b → fate shape log c p ≡ Some b
+-- and says the truth; below that it says up to which place behind its own it is decided, and how many were kept there: nothing at first
+pub record IsMark (shape : Shape) (log : List Entry) (c p n : ℕ) : Type 0 where
+  pub told : (b : Bool) → mark_told n ≡ Some b → fate shape log c p ≡ Some b
+  pub behind : n < 4611686018427387904 → WereDecided shape log c (p + 1) (n / 2097152) (n % 2097152)
 
 -- ---- all words
 

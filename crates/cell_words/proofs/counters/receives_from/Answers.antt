@@ -9,5 +9,5 @@ overflow_cast-result c =
     record {
       fits = (hint_fits (shape_of c.args.hub.now) c.args.c _ _ (seen_by c.load_word.new.pass).seen
           (hub_legal c.args.hub.now c.load_word.new.pass h.own.0) (c.args.hub.now.sized.places c.args.c c.requires.channel).few
-          (h.found.receives c.args.c c.requires.channel c.receive_word.ensures)).1;
+          (h.found.receives c.args.c c.requires.channel c.receive_counter.ensures)).1;
     }

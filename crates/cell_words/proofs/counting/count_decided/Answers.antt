@@ -4,7 +4,7 @@ use Rattle.cell_words.specs.Answers.{stands}
 use Rattle.cell_words.proofs.LooksAtCells.{hub_legal, sees_then, given_seen, below_seen}
 use Rattle.cell_words.proofs.WalksCount.{count_before}
 use Rattle.cell_words.proofs.WalksToAdmit.{sees_self}
-use Rattle.cell_words.proofs.CountsOfDecided.{decided_stand, decided_few}
+use Rattle.cell_words.proofs.CountsOfDecided.{decided_seen, decided_stand, decided_few}
 use Rattle.cell_words.proofs.counting.count_decided.Goals as goal
 
 pub loop-look-init : goal.loop-look-init
@@ -83,20 +83,80 @@ returns-then-tells_enough-clause-count c =
     (decided_stand shape c.args.c c.args.low v.seen l st _ _ _ c.args.end c.args.most
     r.1 r.2 r.3 r.4 h.decided)
 
-pub count_from-requires-clause-given : goal.count_from-requires-clause-given
-count_from-requires-clause-given c = c.loop-look.invariant.given
+-- many places are behind those of which is decided
+pub count_past-requires-clause-given : goal.count_past-requires-clause-given
+count_past-requires-clause-given c =
+    let v = seen_by c.loop-look.pass in
+    let w = seen_by c.decided_up_to-known.new.pass in
+    let x = seen_by c.stands_at-stood.new.pass in
+    given_seen (shape_of c.args.hub.now) c.args.end c.args.c v x
+    (sees_then v w x c.decided_up_to-known.ensures.sees c.stands_at-stood.ensures.sees)
+    (hub_legal c.args.hub.now c.stands_at-stood.new.pass c.stands_at-stood.ensures.own.0) c.loop-look.invariant.given
 
-pub count_from-requires-clause-low : goal.count_from-requires-clause-low
-count_from-requires-clause-low c = c.loop-look.invariant.low
+pub count_past-requires-clause-low : goal.count_past-requires-clause-low
+count_past-requires-clause-low c =
+    let v = seen_by c.loop-look.pass in
+    let w = seen_by c.decided_up_to-known.new.pass in
+    let x = seen_by c.stands_at-stood.new.pass in
+    below_seen (shape_of c.args.hub.now) 0 c.args.low c.args.c v x
+    (sees_then v w x c.decided_up_to-known.ensures.sees c.stands_at-stood.ensures.sees)
+    (hub_legal c.args.hub.now c.stands_at-stood.new.pass c.stands_at-stood.ensures.own.0) c.loop-look.invariant.low
+
+pub count_past-requires-clause-decided : goal.count_past-requires-clause-decided
+count_past-requires-clause-decided c = decided_seen (shape_of c.args.hub.now) c.args.c _ _ _
+    (seen_by c.decided_up_to-known.new.pass) (seen_by c.stands_at-stood.new.pass) c.stands_at-stood.ensures.sees
+    (hub_legal c.args.hub.now c.stands_at-stood.new.pass c.stands_at-stood.ensures.own.0) c.decided_up_to-known.ensures.decided
+
+pub returns-then-is_far-clause-sees : goal.returns-then-is_far-clause-sees
+returns-then-is_far-clause-sees c =
+    let u = seen_by c.args.pass.now in
+    let v = seen_by c.loop-look.pass in
+    let w = seen_by c.decided_up_to-known.new.pass in
+    let x = seen_by c.stands_at-stood.new.pass in
+    sees_then u x (seen_by c.count_past.new.pass) (sees_then u v x c.loop-look.invariant.sees
+    (sees_then v w x c.decided_up_to-known.ensures.sees c.stands_at-stood.ensures.sees)) c.count_past.ensures.sees
+
+pub returns-then-is_far-clause-count : goal.returns-then-is_far-clause-count
+returns-then-is_far-clause-count c =
+    let u = seen_by c.args.pass.now in
+    let v = seen_by c.loop-look.pass in
+    let w = seen_by c.decided_up_to-known.new.pass in
+    let x = seen_by c.stands_at-stood.new.pass in
+    count_before (shape_of c.args.hub.now) c.args.c c.args.end c.args.most u x (seen_by c.count_past.new.pass)
+    (sees_then u v x c.loop-look.invariant.sees
+    (sees_then v w x c.decided_up_to-known.ensures.sees c.stands_at-stood.ensures.sees))
+    (hub_legal c.args.hub.now c.args.pass.now c.requires.own.0)
+    (hub_legal c.args.hub.now c.stands_at-stood.new.pass c.stands_at-stood.ensures.own.0)
+    c.requires.given c.count_past.result c.count_past.ensures.count
+
+-- after all looks
+pub count_past-requires-2-clause-given : goal.count_past-requires-2-clause-given
+count_past-requires-2-clause-given c =
+    given_seen (shape_of c.args.hub.now) c.args.end c.args.c (seen_by c.loop-look.pass) (seen_by c.decided_up_to-known-2.new.pass)
+    c.decided_up_to-known-2.ensures.sees
+    (hub_legal c.args.hub.now c.decided_up_to-known-2.new.pass c.decided_up_to-known-2.ensures.own.0) c.loop-look.invariant.given
+
+pub count_past-requires-2-clause-low : goal.count_past-requires-2-clause-low
+count_past-requires-2-clause-low c =
+    below_seen (shape_of c.args.hub.now) 0 c.args.low c.args.c (seen_by c.loop-look.pass) (seen_by c.decided_up_to-known-2.new.pass)
+    c.decided_up_to-known-2.ensures.sees
+    (hub_legal c.args.hub.now c.decided_up_to-known-2.new.pass c.decided_up_to-known-2.ensures.own.0) c.loop-look.invariant.low
 
 pub returns-clause-sees : goal.returns-clause-sees
-returns-clause-sees c = sees_then (seen_by c.args.pass.now) (seen_by c.loop-look.pass) (seen_by c.count_from.new.pass)
-    c.loop-look.invariant.sees c.count_from.ensures.sees
+returns-clause-sees c =
+    let u = seen_by c.args.pass.now in
+    let v = seen_by c.loop-look.pass in
+    let w = seen_by c.decided_up_to-known-2.new.pass in
+    sees_then u w (seen_by c.count_past-2.new.pass) (sees_then u v w c.loop-look.invariant.sees c.decided_up_to-known-2.ensures.sees)
+    c.count_past-2.ensures.sees
 
 pub returns-clause-count : goal.returns-clause-count
 returns-clause-count c =
-    count_before (shape_of c.args.hub.now) c.args.c c.args.end c.args.most (seen_by c.args.pass.now) (seen_by c.loop-look.pass)
-    (seen_by c.count_from.new.pass) c.loop-look.invariant.sees
+    let u = seen_by c.args.pass.now in
+    let v = seen_by c.loop-look.pass in
+    let w = seen_by c.decided_up_to-known-2.new.pass in
+    count_before (shape_of c.args.hub.now) c.args.c c.args.end c.args.most u w (seen_by c.count_past-2.new.pass)
+    (sees_then u v w c.loop-look.invariant.sees c.decided_up_to-known-2.ensures.sees)
     (hub_legal c.args.hub.now c.args.pass.now c.requires.own.0)
-    (hub_legal c.args.hub.now c.loop-look.pass c.loop-look.invariant.own.0)
-    c.requires.given c.count_from.result c.count_from.ensures.count
+    (hub_legal c.args.hub.now c.decided_up_to-known-2.new.pass c.decided_up_to-known-2.ensures.own.0)
+    c.requires.given c.count_past-2.result c.count_past-2.ensures.count

@@ -1,4 +1,4 @@
-use Rattle.std.proofs.Common.{◌-◌, true, sym, subst, arith}
+use Rattle.std.proofs.Common.{◌-◌, sym, subst, arith}
 use Rattle.channel_model.specs.Laws.{NoneBelow}
 use Rattle.cell_words.specs.Hubs.{shape_of, seen_by}
 use Rattle.cell_words.specs.Seen.{Seen, Sees, at_channel}

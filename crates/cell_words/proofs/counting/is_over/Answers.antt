@@ -32,18 +32,18 @@ returns-then-has_from-clause-over c =
     v.seen l (below_seen shape 0 c.args.first c.args.c (seen_by c.args.pass.now) v h.sees l c.requires.low) h.kept r.0 r.1
 
 pub returns-clause-sees : goal.returns-clause-sees
-returns-clause-sees c = sees_then (seen_by c.args.pass.now) (seen_by c.kept_run-run.new.pass) (seen_by c.count_from.new.pass)
-    c.kept_run-run.ensures.sees c.count_from.ensures.sees
+returns-clause-sees c = sees_then (seen_by c.args.pass.now) (seen_by c.kept_run-run.new.pass) (seen_by c.enough_from.new.pass)
+    c.kept_run-run.ensures.sees c.enough_from.ensures.sees
 
-pub count_from-requires-clause-given : goal.count_from-requires-clause-given
-count_from-requires-clause-given c =
+pub enough_from-requires-clause-given : goal.enough_from-requires-clause-given
+enough_from-requires-clause-given c =
     let h = c.kept_run-run.ensures in
     let given : c.args.mine + 1 ≤ (at_channel (seen_by c.args.pass.now).seen c.args.c).next = omega (arith, c.requires.given.1) in
     given_seen (shape_of c.args.hub.now) (c.args.mine + 1) c.args.c (seen_by c.args.pass.now) (seen_by c.kept_run-run.new.pass) h.sees
     (hub_legal c.args.hub.now c.kept_run-run.new.pass h.own.0) given
 
-pub count_from-requires-clause-low : goal.count_from-requires-clause-low
-count_from-requires-clause-low c =
+pub enough_from-requires-clause-low : goal.enough_from-requires-clause-low
+enough_from-requires-clause-low c =
     let h = c.kept_run-run.ensures in
     below_seen (shape_of c.args.hub.now) 0 c.args.first c.args.c (seen_by c.args.pass.now) (seen_by c.kept_run-run.new.pass) h.sees
     (hub_legal c.args.hub.now c.kept_run-run.new.pass h.own.0) c.requires.low
@@ -53,14 +53,14 @@ returns-clause-over c =
     let shape = shape_of c.args.hub.now in
     let u = seen_by c.args.pass.now in
     let v = seen_by c.kept_run-run.new.pass in
-    let w = seen_by c.count_from.new.pass in
+    let w = seen_by c.enough_from.new.pass in
     let k = c.kept_run-run.ensures in
-    let h = c.count_from.ensures in
+    let h = c.enough_from.ensures in
     let lv = hub_legal c.args.hub.now c.kept_run-run.new.pass k.own.0 in
-    let lw = hub_legal c.args.hub.now c.count_from.new.pass h.own.0 in
+    let lw = hub_legal c.args.hub.now c.enough_from.new.pass h.own.0 in
     let given : c.args.mine + 1 ≤ (at_channel u.seen c.args.c).next = omega (arith, c.requires.given.1) in
     let at : c.args.mine + 1 ≤ (at_channel v.seen c.args.c).next = given_seen shape (c.args.mine + 1) c.args.c u v k.sees lv given in
     let later : c.args.mine + 1 ≤ (at_channel w.seen c.args.c).next = given_seen shape (c.args.mine + 1) c.args.c v w h.sees lw at in
     over_told shape c.args.c c.args.first c.args.mine _ v w h.sees lv lw c.requires.given.0 (omega (arith, at)) (omega (arith, later))
     (below_seen shape 0 c.args.first c.args.c u v k.sees lv c.requires.low)
-    (drops_as c.kind_of.result (kind_at shape c.args.c) _ c.kind_of.ensures c.in-Some.ensures) c.count_from.result h.count
+    (drops_as c.kind_of.result (kind_at shape c.args.c) _ c.kind_of.ensures c.in-Some.ensures) c.enough_from.result h.count

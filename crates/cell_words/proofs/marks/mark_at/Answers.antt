@@ -9,5 +9,5 @@ load_word-word-requires-clause-word c = rw c.mark_word.ensures
 
 pub returns-clause-fate : goal.returns-clause-fate
 returns-clause-fate c b e =
-    c.load_word-word.ensures.found.mark c.args.c c.args.place c.requires.at.0 c.requires.at.1 c.mark_word.ensures b
+    (c.load_word-word.ensures.found.mark c.args.c c.args.place c.requires.at.0 c.requires.at.1 c.mark_word.ensures).told b
     (sym c.mark_found.ensures ∙ e)

@@ -1,4 +1,4 @@
-use Rattle.std.proofs.Common.{◌≡◌, ℕ, Bool, true, false, List, ◌∷◌, [], sym, ap, ◌∙◌, subst}
+use Rattle.std.proofs.Common.{ℕ, List, sym, ap, ◌∙◌, subst}
 use Rattle.worded.specs.Views.{has_tag, is_bare}
 use Rattle.worded.proofs.TagsNotGiven.{ungiven_giver}
 use Rattle.joined_words.specs.Parts.{tag_in}

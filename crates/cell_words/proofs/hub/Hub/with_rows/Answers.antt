@@ -1,16 +1,15 @@
-use Rattle.std.proofs.Common.{ℕ, ◌+◌, ◌*◌, ◌==◌, if◌then◌else◌, [], get_or, sym, ◌∙◌, ap, subst, arith, refl, length}
-use Rattle.word_rules.specs.Words.{Fits, maker, word_count}
-use Rattle.word_rules.specs.Deeds as rows
+use Rattle.std.proofs.Common.{ℕ, ◌+◌, ◌*◌, [], get_or, sym, ◌∙◌, ap, subst, arith, refl, length}
+use Rattle.word_rules.specs.Words.{Fits, maker}
 use Rattle.word_rules.specs.declared.layout.Layout.{Layout}
 use Rattle.word_rules.specs.declared.size.ForestSize.{ForestSize}
 use Rattle.word_rules.proofs.FirstRows.{nothing_yet}
 use Rattle.joined_words.specs.Parts.{entries_in, tags_in, view_in}
 use Rattle.joined_words.specs.Joints.{first_of, first_part, quiet_words}
 use Rattle.joined_words.specs.Seen.{view_of}
-use Rattle.cell_words.specs.Seen.{Known, NothingOf, NobodyUngiven, on_channels, rows_beside}
+use Rattle.cell_words.specs.Seen.{NothingOf, NobodyUngiven, on_channels, rows_beside}
 use Rattle.cell_words.proofs.NewHubs.{all_free, none_legal, count_is, first_rows_fit, free_below}
 use Rattle.cell_words.proofs.ActsOfTags.{legal_at, nothing_of}
-use Rattle.worded.specs.Views.{has_tag, is_bare, first_view}
+use Rattle.worded.specs.Views.{has_tag, is_bare}
 use Rattle.worded.proofs.StepsOfSeats.{laws_first}
 use Rattle.cell_words.proofs.hub.Hub.with_rows.Goals as goal
 

@@ -6,8 +6,8 @@ use Rattle.cell_words.specs.Answers.{stands}
 use Rattle.cell_words.proofs.LooksAtCells.{hub_legal, sees_then, given_seen}
 use Rattle.cell_words.proofs.WalksCount.{counted_low, counted_stands, counted_gone, lower_end, upper_end, count_end, less_than, too_few}
 use Rattle.cell_words.proofs.WalksToAdmit.{sees_self}
-use Rattle.cell_words.proofs.counting.count_from.Goals.{then-stands_at, else-stands_at}
-use Rattle.cell_words.proofs.counting.count_from.Goals as goal
+use Rattle.cell_words.proofs.counting.enough_from.Goals.{then-stands_at, else-stands_at}
+use Rattle.cell_words.proofs.counting.enough_from.Goals as goal
 
 pub returns-then-count-most-clause-count : goal.returns-then-count-most-clause-count
 returns-then-count-most-clause-count c = subst (λ (n : ℕ). n ≤ length (gather (stands (seen_by c.args.pass.now).seen c.args.c) c.args.end))

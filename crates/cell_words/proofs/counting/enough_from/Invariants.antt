@@ -2,7 +2,7 @@ use Rattle.std.proofs.Common.{◌≤◌}
 use Rattle.cell_words.specs.Hubs.{IsOwn, seen_by}
 use Rattle.cell_words.specs.Seen.{Sees, at_channel}
 use Rattle.cell_words.proofs.WalksCount.{Counted}
-use Rattle.cell_words.proofs.counting.count_from.Given as goal
+use Rattle.cell_words.proofs.counting.enough_from.Given as goal
 
 abbrev pub invariant-loop-place : goal.invariant-loop-place
 invariant-loop-place l = record {
