@@ -1,3 +1,4 @@
 pub mod StaysThen
 pub mod ClosesGo
 pub mod PollsTold
+pub mod ReceiversEnd

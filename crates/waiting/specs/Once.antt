@@ -9,7 +9,7 @@ use Rattle.channel_model.specs.Answers.{IsUnsettledOf}
 use Rattle.parcel_channel.specs.declared.hub.ParcelHub.{ParcelHub}
 use Rattle.parcel_channel.specs.declared.hub.ParcelPass.{ParcelPass}
 use Rattle.parcel_channel.specs.Hubs.{floor_by}
-use Rattle.waiting.specs.Stands.{HoldsAt}
+use Rattle.waiting.specs.Stands.{HoldsAt, AwaitsAt}
 
 IsUnsettledOf-prop : (who : ℕ) (x : Option Wait) → IsProp (IsUnsettledOf who x)
 IsUnsettledOf-prop who None = λ a b. absurd a
@@ -19,4 +19,9 @@ module _ {T : Type 0} where
   pub HoldsAt-prop : (hub : ParcelHub T) (pass : ParcelPass T) (wait : Option WaitId) → IsProp (HoldsAt hub pass wait)
   HoldsAt-prop hub pass None = Unit-prop
   HoldsAt-prop hub pass (Some w) =
+      ×_prop (hlevel props) (IsUnsettledOf-prop pass.tag ((replay (floor_by hub pass).seen).waits w))
+
+  pub AwaitsAt-prop : (hub : ParcelHub T) (pass : ParcelPass T) (wait : Option WaitId) → IsProp (AwaitsAt hub pass wait)
+  AwaitsAt-prop hub pass None = Unit-prop
+  AwaitsAt-prop hub pass (Some w) =
       ×_prop (hlevel props) (IsUnsettledOf-prop pass.tag ((replay (floor_by hub pass).seen).waits w))

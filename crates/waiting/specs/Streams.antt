@@ -14,8 +14,14 @@ use Rattle.waiting.specs.declared.calls.ReceiveFault.TheVariants as ungot
 use Rattle.waiting.specs.declared.receiving.Polled.{Polled}
 use Rattle.waiting.specs.declared.receiving.Polled.TheVariants as polled
 use Rattle.waiting.specs.declared.streams.ParcelStream.{ParcelStream}
-use Rattle.waiting.specs.Stands.{HoldsAt}
+use Rattle.waiting.specs.Stands.{AwaitsAt}
 use Rattle.waiting.specs.Waits.{Stays, EndsAsleep, GotAtOnce, ReceivesAtOnce, ReceiveEndsAs}
+
+-- another than that the channel is closed
+abbrev pub NotClosed : ReceiveFault → Type 0
+NotClosed (ungot.Closed c) = ⊥
+NotClosed ungot.Spent = Unit {0}
+NotClosed ungot.Lost = Unit {0}
 
 module _ {T : Type 0} where
   -- at any time
@@ -23,15 +29,8 @@ module _ {T : Type 0} where
   PollsAny s = ⊤
 
   -- whatever the senders put
-  abbrev pub YieldsAny : ParcelStream T → List (Result T (ReceiveFault T)) → Option (Result T (ReceiveFault T)) → Type 0
+  abbrev pub YieldsAny : ParcelStream T → List (Result T ReceiveFault) → Option (Result T ReceiveFault) → Type 0
   YieldsAny s xs last = ⊤
-
-  -- another than that the channel is closed
-  abbrev pub NotClosed : ReceiveFault T → Type 0
-  NotClosed (ungot.Closed c) = ⊥
-  NotClosed ungot.Spent = Unit {0}
-  NotClosed ungot.Lost = Unit {0}
-  NotClosed (ungot.Ended s) = Unit {0}
 
   -- what a poll comes to whose wait ended so
   abbrev pub PolledAs : ParcelSettled T → Polled T → Type 0
@@ -65,7 +64,7 @@ module _ {T : Type 0} where
   HeldAfter hub pass (polled.Value x) = Unit {0}
   HeldAfter hub pass (polled.Closed c) = Unit {0}
   HeldAfter hub pass (polled.Fault f) = Unit {0}
-  HeldAfter hub pass (polled.Waits w) = HoldsAt hub pass (Some w)
+  HeldAfter hub pass (polled.Waits w) = AwaitsAt hub pass (Some w)
 
   -- it is a stream of the same channel, with the same tags
   abbrev pub SameStream : ParcelStream T → ParcelStream T → Type 0
@@ -81,7 +80,7 @@ module _ {T : Type 0} where
   IsOverBy false old new = (c : ℕ) × StepsSo old new (polled.Closed c) × (new.wait ≡ None)
 
   -- a poll gives what was received; the stream ends with the channel, and after a fault; and it is pending where it waits
-  abbrev pub PolledSo : ParcelStream T → ParcelStream T → Poll (Option (Result T (ReceiveFault T))) → Type 0
+  abbrev pub PolledSo : ParcelStream T → ParcelStream T → Poll (Option (Result T ReceiveFault)) → Type 0
   PolledSo old new (Ready (Some (Ok x))) = StepsSo old new (polled.Value x) × (new.wait ≡ None) × (new.ended ≡ false)
   PolledSo old new (Ready (Some (Err f))) = StepsSo old new (polled.Fault f) × (new.wait ≡ None) × (new.ended ≡ true)
   PolledSo old new (Ready None) = IsOverBy old.ended old new × (new.ended ≡ true)

@@ -92,12 +92,11 @@ module _ {T : Type 0} where
     pub answer : ReceiveAnswer parcels who v w old new (found.Lost from admitted)
 
   -- and answered so
-  abbrev pub ReceivesAtOnce : ℕ → ℕ → Seen T → Seen T → Floor → Floor → Result T (ReceiveFault T) → Type 0
+  abbrev pub ReceivesAtOnce : ℕ → ℕ → Seen T → Seen T → Floor → Floor → Result T ReceiveFault → Type 0
   ReceivesAtOnce parcels who v w old new (Ok x) = GotAtOnce parcels who v w old new x
   ReceivesAtOnce parcels who v w old new (Err (ungot.Closed c)) = ReceiveAnswer parcels who v w old new (found.Closed c)
   ReceivesAtOnce parcels who v w old new (Err ungot.Spent) = ReceiveAnswer parcels who v w old new found.Spent
   ReceivesAtOnce parcels who v w old new (Err ungot.Lost) = LostAtOnce parcels who v w old new
-  ReceivesAtOnce parcels who v w old new (Err (ungot.Ended s)) = ⊥
 
   -- it waited, and its wait ended so
   pub record GotLater (parcels who : ℕ) (v w : Seen T) (old new : Floor) (r : ParcelSettled T) : Type 0 where
@@ -107,25 +106,22 @@ module _ {T : Type 0} where
     pub waits : ReceiveAnswer parcels who v seen old floor (found.Waits wait)
     pub ends : EndsAsleep parcels who wait seen w floor new r
 
-  -- it ended without a value, but not by a close, and no value was lost
-  abbrev pub IsUngot : ParcelSettled T → Type 0
-  IsUngot (settled.Value x) = ⊥
-  IsUngot settled.Sent = Unit {0}
-  IsUngot (settled.Closed c) = ⊥
-  IsUngot (settled.Cancelled x) = Unit {0}
-  IsUngot (settled.Undelivered x) = Unit {0}
-  IsUngot settled.Lost = ⊥
+  -- it ended as the wait of a receiver does that nobody takes back
+  abbrev pub IsReceived : ParcelSettled T → Type 0
+  IsReceived (settled.Value x) = Unit {0}
+  IsReceived (settled.Closed c) = Unit {0}
+  IsReceived settled.Lost = Unit {0}
+  IsReceived other = ⊥
 
   -- how a receive ends whose wait ended so
-  abbrev pub ReceiveEndsAs : ParcelSettled T → Result T (ReceiveFault T) → Type 0
+  abbrev pub ReceiveEndsAs : ParcelSettled T → Result T ReceiveFault → Type 0
   ReceiveEndsAs s (Ok x) = s ≡ settled.Value x
   ReceiveEndsAs s (Err (ungot.Closed c)) = s ≡ settled.Closed c
   ReceiveEndsAs s (Err ungot.Spent) = ⊥
   ReceiveEndsAs s (Err ungot.Lost) = s ≡ settled.Lost
-  ReceiveEndsAs s (Err (ungot.Ended r)) = (s ≡ r) × IsUngot r
 
   -- what a receive answers, whether it waited or not
-  abbrev pub GotAsleep : ℕ → ℕ → Seen T → Seen T → Floor → Floor → Result T (ReceiveFault T) → Type 0
+  abbrev pub GotAsleep : ℕ → ℕ → Seen T → Seen T → Floor → Floor → Result T ReceiveFault → Type 0
   GotAsleep parcels who v w old new r =
       ReceivesAtOnce parcels who v w old new r
       ⊎ ((s : ParcelSettled T) × GotLater parcels who v w old new s × ReceiveEndsAs s r)

@@ -1,7 +1,7 @@
 //! To send, to receive and to close.
 ghost use Rattle.std.specs.Prelude.{◌≡◌};
 ghost use Rattle.parcel_channel.specs.Hubs.{IsOf, SamePass, seen_by, floor_by};
-ghost use Rattle.waiting.specs.Waits.{SendEndsAs, ReceiveEndsAs, SentAsleep, GotAsleep};
+ghost use Rattle.waiting.specs.Waits.{SendEndsAs, IsReceived, ReceiveEndsAs, SentAsleep, GotAsleep};
 
 use crate::resting::{end_asleep, wake, wake_set};
 use co_base::Value;
@@ -25,16 +25,15 @@ pub enum SendFault<T> {
 }
 
 /// Why no value was received.
-#[derive(Drop)]
-pub enum ReceiveFault<T> {
-    /// The channel is closed with this value, and nothing is left in it.
+#[derive(Clone, Copy, Debug, PartialEq, Eq)]
+pub enum ReceiveFault {
+    /// The channel is closed with this value, and nothing is left in it. A channel is closed before it is cancelled, so one that was
+    /// cancelled answers this too, and the value is the cause.
     Closed(Value),
     /// The channel has no place left.
     Spent,
     /// The slot of the number that was received held no value.
     Lost,
-    /// It waited, and its wait ended so.
-    Ended(ParcelSettled<T>),
 }
 
 /// How a send ends whose wait ended so.
@@ -54,20 +53,17 @@ fn send_end<T>(settled: ParcelSettled<T>) -> Result<(), SendFault<T>>
 }
 
 /// How a receive ends whose wait ended so.
-fn receive_end<T>(settled: ParcelSettled<T>) -> Result<T, ReceiveFault<T>>
+fn receive_end<T>(settled: ParcelSettled<T>) -> Result<T, ReceiveFault>
+    requires received { IsReceived settled }
     ensures ends { ReceiveEndsAs settled result }
 {
     match settled {
         ParcelSettled::Value(value) => Ok(value),
         ParcelSettled::Closed(v) => Err(ReceiveFault::Closed(v)),
         ParcelSettled::Lost => Err(ReceiveFault::Lost),
-        ParcelSettled::Sent => Err(ReceiveFault::Ended(ParcelSettled::Sent)),
-        ParcelSettled::Cancelled(value) => Err(ReceiveFault::Ended(ParcelSettled::Cancelled(
-            value,
-        ))),
-        ParcelSettled::Undelivered(value) => {
-            Err(ReceiveFault::Ended(ParcelSettled::Undelivered(value)))
-        }
+        ParcelSettled::Sent => unreachable!(),
+        ParcelSettled::Cancelled(_) => unreachable!(),
+        ParcelSettled::Undelivered(_) => unreachable!(),
     }
 }
 
@@ -108,7 +104,7 @@ pub fn receive<T, R: Wait>(
     hub: &ParcelHub<T>,
     bells: &Bells,
     pass: &mut ParcelPass<T>,
-) -> Result<T, ReceiveFault<T>>
+) -> Result<T, ReceiveFault>
     requires of { IsOf hub.now pass.old }
     ensures of { IsOf hub.now pass.new }
     ensures same { SamePass pass.old pass.new }

@@ -4,8 +4,8 @@ ghost use Rattle.futures.specs.Runs.{After, Within};
 ghost use Rattle.futures.specs.Task.{Covers, Keeps};
 ghost use Rattle.futures.specs.Poll.{IfReady, OnPending};
 ghost use Rattle.parcel_channel.specs.Hubs.{IsOf, SamePass, floor_by};
-ghost use Rattle.parcel_channel.specs.Numbers.{HoldsWait};
-ghost use Rattle.waiting.specs.Stands.{HoldsAt};
+ghost use Rattle.waiting.specs.Stands.{AwaitsOn, AwaitsAt};
+ghost use Rattle.waiting.specs.Waits.{IsReceived};
 ghost use Rattle.waiting.specs.Streams.{PollsAny, YieldsAny, PolledAs, ReceiveStep, HeldAfter, SameStream, PolledSo};
 
 use crate::calls::ReceiveFault;
@@ -22,7 +22,7 @@ use ring_bridge::Bells;
 pub(crate) enum Polled<T> {
     Value(T),
     Closed(Value),
-    Fault(ReceiveFault<T>),
+    Fault(ReceiveFault),
     Waits(WaitId),
 }
 
@@ -51,27 +51,23 @@ fn begin<T>(hub: &ParcelHub<T>, bells: &Bells, pass: &mut ParcelPass<T>) -> Poll
 
 /// What a poll comes to whose wait ended so.
 fn polled_as<T>(settled: ParcelSettled<T>) -> Polled<T>
+    requires received { IsReceived settled }
     ensures ends { PolledAs settled result }
 {
     match settled {
         ParcelSettled::Value(value) => Polled::Value(value),
         ParcelSettled::Closed(v) => Polled::Closed(v),
         ParcelSettled::Lost => Polled::Fault(ReceiveFault::Lost),
-        ParcelSettled::Sent => Polled::Fault(ReceiveFault::Ended(ParcelSettled::Sent)),
-        ParcelSettled::Cancelled(value) => {
-            Polled::Fault(ReceiveFault::Ended(ParcelSettled::Cancelled(value)))
-        }
-        ParcelSettled::Undelivered(value) => {
-            Polled::Fault(ReceiveFault::Ended(ParcelSettled::Undelivered(value)))
-        }
+        ParcelSettled::Sent => unreachable!(),
+        ParcelSettled::Cancelled(_) => unreachable!(),
+        ParcelSettled::Undelivered(_) => unreachable!(),
     }
 }
 
 /// Looks at the own wait, and ends it, if it was resolved.
 fn go_on<T>(hub: &ParcelHub<T>, pass: &mut ParcelPass<T>, at: WaitId) -> Polled<T>
     requires of { IsOf hub.now pass.old }
-    requires wait { at.channel ≡ 0 }
-    requires holds { HoldsWait pass.old.tag at (floor_by hub.now pass.old) }
+    requires awaits { AwaitsOn pass.old.tag at (floor_by hub.now pass.old) }
     ensures of { IsOf hub.now pass.new }
     ensures same { SamePass pass.old pass.new }
     ensures held { HeldAfter hub.now pass.new result }
@@ -92,7 +88,7 @@ fn step<T>(
     wait: Option<WaitId>,
 ) -> Polled<T>
     requires of { IsOf hub.now pass.old }
-    requires held { HoldsAt hub.now pass.old wait }
+    requires held { AwaitsAt hub.now pass.old wait }
     ensures of { IsOf hub.now pass.new }
     ensures same { SamePass pass.old pass.new }
     ensures held { HeldAfter hub.now pass.new result }
@@ -122,13 +118,13 @@ impl<'a, T> ParcelStream<'a, T> {
 }
 
 impl<T: Drop> Stream for ParcelStream<'_, T> {
-    type Item = Result<T, ReceiveFault<T>>;
+    type Item = Result<T, ReceiveFault>;
 
     ghost can_poll = { PollsAny };
 
     ghost yields = { YieldsAny };
 
-    fn poll_next(&mut self, cx: &mut Context<'_>) -> Poll<Option<Result<T, ReceiveFault<T>>>>
+    fn poll_next(&mut self, cx: &mut Context<'_>) -> Poll<Option<Result<T, ReceiveFault>>>
         requires { PollsAny self.old }
         ensures value { IfReady result (YieldsAny self.old []) }
         ensures rest { IfReady result (λ o. IfSome o (λ x. After (YieldsAny self.old) x (YieldsAny self.new))) }

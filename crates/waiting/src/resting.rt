@@ -13,8 +13,9 @@ use ring_bridge::Bells;
 use std::hint::spin_loop;
 use std::sync::Wait;
 
-/// How often a wait is looked at before its thread sleeps.
-pub(crate) const LOOKS: u32 = 200;
+/// How often a wait is looked at before its thread sleeps: longer than an answer takes that is on its way from another processor, so
+/// that two threads which answer each other at once seldom sleep; and short beside what it costs to sleep where processors are few.
+pub(crate) const LOOKS: u32 = 1500;
 
 /// The bell of a tag: each tag below 63 has one of its own, and all others have the last.
 pub(crate) fn bell_of(tag: Tag) -> u32

@@ -2,8 +2,8 @@
 ghost use Rattle.std.specs.Prelude.{◌≡◌, ◌<◌};
 ghost use Rattle.std.proofs.Props.{props};
 ghost use Rattle.parcel_channel.specs.Hubs.{IsOf, SamePass};
-ghost use Rattle.waiting.specs.Once.{HoldsAt-prop};
-ghost use Rattle.waiting.specs.Stands.{HoldsAt};
+ghost use Rattle.waiting.specs.Once.{AwaitsAt-prop};
+ghost use Rattle.waiting.specs.Stands.{AwaitsAt};
 ghost use Rattle.waiting.specs.Stops.{StopsAt};
 
 use crate::stops::stop_at;
@@ -22,7 +22,7 @@ pub struct ParcelStream<'a, T> {
     pub(crate) ended: bool,
     pub ghost of: { IsOf hub.now pass } by { Prim.hlevel props },
     pub ghost low: { pass.tag < 63 },
-    pub ghost held: { HoldsAt hub.now pass wait } by { HoldsAt-prop hub.now pass wait },
+    pub ghost held: { AwaitsAt hub.now pass wait } by { AwaitsAt-prop hub.now pass wait },
 }
 
 impl<T: Drop> ParcelStream<'_, T> {
