@@ -789,7 +789,19 @@ def compare(program, script):
     return differs
 
 
+def are_words(words):
+    """Whether the words are those of a call."""
+    if words == ["--ends"]:
+        return True
+    numbers = words[1:]
+    return bool(words) and all(number.isascii() and number.isdigit() for number in numbers) and (
+        len(numbers) == 1 if words[0] == "--show" else len(numbers) < 3 and words[0][:1] != "-")
+
+
 def main(words):
+    if not are_words(words):
+        print("usage: docs/plain_explorer.py PROGRAM [FIRST [COUNT]] | --show SEED | --ends < SCRIPT", file=sys.stderr)
+        return 2
     if words[:1] == ["--ends"]:
         ends, states = ends_of(Script(sys.stdin.read()), 10 ** 6)
         for end, turns in ends.items():
@@ -801,7 +813,7 @@ def main(words):
         print(script)
         print(ends_of(Script(script), 10 ** 5))
         return 0
-    program, first, count = words[0], int((words + ["0"])[1]), int((words + ["0", "100"])[2]) if len(words) > 2 else 100
+    program, first, count = words[0], int((words + ["0"])[1]), int(words[2]) if len(words) > 2 else 100
     compared, seed, bad = 0, first, 0
     while compared < count:
         differs = compare(program, made(seed))

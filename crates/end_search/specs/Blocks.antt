@@ -1,6 +1,7 @@
 -- What is printed of the ends of a script.
-use Rattle.std.specs.Prelude.{◌≡◌, ◌==◌, ℕ, ◌+◌, ◌<◌, ◌≤◌, if◌then◌else◌, Bool, true, false, List, [], ◌∷◌, ◌++◌, length, Option, Some, None, is_none, is_some, nat_lt, slice_get}
+use Rattle.std.specs.Prelude.{◌≡◌, ◌==◌, ℕ, ◌+◌, ◌<◌, ◌≤◌, if◌then◌else◌, Bool, true, false, not, ◌&&◌, List, [], ◌∷◌, ◌++◌, length, Option, Some, None, is_none, is_some, nat_lt, slice_get}
 use Rattle.std.specs.List.{ends_with, flat_map, list_any, slice_split}
+use Rattle.std.specs.Str.{bytes_eq}
 use Rattle.std.specs.Fmt.{decimal}
 use lib.Chars.{codes}
 use Rattle.channel_model.specs.declared.acts.ChannelNote.TheVariants as note
@@ -10,8 +11,10 @@ use Rattle.job_model.specs.declared.acts.End.TheVariants as ends
 use Rattle.note_book.specs.declared.book.Item.{Item}
 use Rattle.note_book.specs.declared.book.Item.TheVariants as item
 use Rattle.script_grammar.specs.Programs.{Declared, Program}
+use Rattle.script_grammar.specs.Tags.{block_of_tag, coroutine_count}
+use Rattle.report_reader.specs.Words.{value_at, words_of}
 use Rattle.run_report.specs.Elements.{ends_text, report_text}
-use Rattle.run_explanation.specs.Answers.{WaitsOf}
+use Rattle.run_explanation.specs.Answers.{WaitsOf, name_by}
 use Rattle.run_explanation.specs.Fitting.{lines_for}
 use Rattle.engine_one.specs.Orders.{MadeInOrder}
 use Rattle.end_search.specs.declared.answers.Report.{Report}
@@ -70,6 +73,33 @@ pub record AreWaits (p : Program) (report text : List ℕ) : Type 0 where
   pub short : length report ≤ 67108864 → WaitsOf p (lines_for p report) text
   pub long : 67108864 < length report → text ≡ too_long_text
 
+-- ---- Jobs by name
+
+-- the Job of a row is called by the block of its coroutine; that of a scope by this word
+abbrev pub name_of_row : Program → Option ℕ → List ℕ
+name_of_row p None = codes "scope"
+name_of_row p (Some row) = if nat_lt row (coroutine_count p) then name_by p (block_of_tag p row) else codes "scope"
+
+-- a word behind a blank
+abbrev pub behind_blank : List ℕ → List ℕ
+behind_blank word = codes " " ++ word
+
+-- the line of a Job by name, whose row, state and further words are these: `  worker 3 completed 1`
+abbrev pub line_by_name : List ℕ → List ℕ → List ℕ → List (List ℕ) → List ℕ
+line_by_name name row state more =
+    codes "  " ++ (name ++ (behind_blank row ++ (behind_blank state ++ (flat_map behind_blank more ++ codes "\n"))))
+
+-- that of a line with these words, if it is of a Job that is not active; a coroutine whose Job is active waits, which has a line of its own
+abbrev pub named_line : Program → List (List ℕ) → List ℕ
+named_line p (what ∷ row ∷ state ∷ more) =
+    if bytes_eq what (codes "job") && not (bytes_eq state (codes "active")) then line_by_name (name_of_row p (value_at row)) row state more
+    else []
+named_line p other = []
+
+-- those of the lines of a text
+abbrev pub named_text : Program → List ℕ → List ℕ
+named_text p text = flat_map (λ line. named_line p (words_of line)) (slice_split (λ b. b == 10) text)
+
 -- ---- which ends are looked for
 
 -- the root was cancelled by a failure
@@ -104,7 +134,7 @@ shows_kind other refused lines = true
 -- ---- blocks
 
 -- the block is that of a run of the script that was made in the order which it shows, and came to rest: how its root ended, which
--- coroutines wait, which sends were refused, the lines of its Jobs and of its elements, and the order
+-- coroutines wait, how its Jobs ended by name, which sends were refused, the lines of its Jobs and of its elements, and the order
 pub record IsBlock (p : Program) (wanted : Option Wanted) (number : ℕ) (block : List ℕ) : Type 0 where
   pub root : Option End
   pub run : RunsTo root p
@@ -115,7 +145,8 @@ pub record IsBlock (p : Program) (wanted : Option Wanted) (number : ℕ) (block 
   pub waits : List ℕ
   pub are_waits : AreWaits p (report_text p run.books) waits
   pub is_text : block
-      ≡ (((head_text number root ++ waits) ++ refused_text p run.books) ++ ends_text p run.books) ++ order_text order
+      ≡ ((((head_text number root ++ waits) ++ named_text p (ends_text p run.books)) ++ refused_text p run.books) ++ ends_text p run.books)
+      ++ order_text order
 
 -- blocks of so many ends, numbered from 1
 pub data Blocks (p : Program) (wanted : Option Wanted) : ℕ → List ℕ → Type 0 where

@@ -10,6 +10,7 @@ ghost use Rattle.engine_one.specs.Runs.{CameToRest, WasMadeInOrder};
 ghost use Rattle.run_report.specs.Elements.{ends_text};
 ghost use Rattle.end_search.specs.Blocks.{AreWaits, IsBlock, does_suit, head_text, order_text, refused_text, shows_kind, status_text, tag_part, tags_text, too_long_text};
 
+use crate::names::named_text;
 use crate::refusals::refused_sends;
 use crate::wanted::{Wanted, does_suit, shows_kind};
 use co_base::{Gate, Memory, Tag};
@@ -85,9 +86,11 @@ fn told_of_run(
 {
     let told = report(alloc, shown.script, &run.done)?;
     let waits = waits_in(alloc, shown.script, shown.source, told.as_slice())?;
+    let named = named_text(alloc, shown.script, lines.ends.as_bytes())?;
     let order = order_text(alloc, order)?;
     let mut block = head_text(alloc, number, run.done.end)?;
     block.extend_from_slice(waits.as_slice())?;
+    block.extend_from_slice(named.as_slice())?;
     block.extend_from_slice(lines.refused.as_bytes())?;
     block.extend_from_slice(lines.ends.as_bytes())?;
     block.extend_from_slice(order.as_bytes())?;

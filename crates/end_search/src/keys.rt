@@ -60,22 +60,7 @@ impl Keys {
         self.words.clear();
         self.middle.clear();
         self.large.clear();
-        let mut word = self.numbers.len() as u64;
-        let mut filled = 8u8;
-        for number in self.numbers.as_slice() {
-            let mut small = *number;
-            if *number > 14 {
-                self.middle.push(*number)?;
-                small = 15;
-            }
-            word = word.wrapping_mul(16) | small;
-            filled = filled.wrapping_add(1);
-            if filled % 16 == 0 {
-                self.words.push(word)?;
-                word = 0;
-            }
-        }
-        self.words.push(word)?;
+        pack_small(self.numbers.as_slice(), &mut self.words, &mut self.middle)?;
         self.pack_middle()
     }
 
@@ -102,4 +87,50 @@ impl Keys {
         self.words.extend_from_slice(self.large.as_slice())?;
         Ok(())
     }
+}
+
+/// Adds words for these numbers, of which the first tells how many there are; those that are not small are added to these, too.
+fn pack_small(numbers: &[u64], words: &mut Vec<u64>, middle: &mut Vec<u64>) -> Result<(), Memory> {
+    let mut word = numbers.len() as u64;
+    let mut is_half = true;
+    let mut rest = numbers;
+    while let [a, b, c, d, e, f, g, h, more @ ..] = rest {
+        let half = eight_of(middle, [*a, *b, *c, *d, *e, *f, *g, *h])?;
+        word = word.wrapping_mul(4294967296) | half;
+        if is_half {
+            words.push(word)?;
+            word = 0;
+        }
+        is_half = !is_half;
+        rest = more;
+    }
+    for number in rest {
+        word = word.wrapping_mul(16) | small_of(middle, *number)?;
+    }
+    words.push(word)?;
+    Ok(())
+}
+
+/// What stands for eight numbers: each that is small; of each other a mark, and it is added to those that are not small.
+fn eight_of(middle: &mut Vec<u64>, eight: [u64; 8]) -> Result<u64, Memory> {
+    let [a, b, c, d, e, f, g, h] = eight;
+    if (a | b | c | d | e | f | g | h) < 15 {
+        let front = (a << 12) | (b << 8) | (c << 4) | d;
+        let back = (e << 12) | (f << 8) | (g << 4) | h;
+        return Ok((front << 16) | back);
+    }
+    let mut half = 0u64;
+    for number in eight {
+        half = half.wrapping_mul(16) | small_of(middle, number)?;
+    }
+    Ok(half)
+}
+
+/// The same of one.
+fn small_of(middle: &mut Vec<u64>, number: u64) -> Result<u64, Memory> {
+    if number > 14 {
+        middle.push(number)?;
+        return Ok(15);
+    }
+    Ok(number)
 }

@@ -9,6 +9,7 @@
 //! - `aheads`: what was found of states before their turn.
 //! - `states`: the states that were seen, and how each was reached.
 //! - `refusals`: the lines of sends that closed channels refused.
+//! - `names`: how the Jobs ended, by the names of their coroutines.
 //! - `wanted`: which ends are looked for, and by what two ends are told apart.
 //! - `local`: polls that no other coroutine can hinder.
 //! - `samples`: runs in random orders.
@@ -24,6 +25,7 @@ mod blocks;
 mod keys;
 mod local;
 mod losses;
+mod names;
 mod parts;
 mod reads;
 mod refusals;

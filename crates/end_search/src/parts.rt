@@ -14,10 +14,11 @@ use engine_one::{Polled, Trial};
 use note_book::{Item, Notes};
 use script_reader::Script;
 use std::alloc::Global;
+use std::sync::atomic::{AtomicU32, Ordering};
 use std::thread;
 use std::thread::Threads;
 
-/// So few states are looked at by one worker.
+/// So many states a worker takes at once; if there are no more, one worker looks at them.
 const FEW: u32 = 64;
 
 /// So many states in a row are looked at before their turn, at most.
@@ -51,23 +52,28 @@ impl Span {
         self.to.saturating_sub(self.from)
     }
 
-    /// The share with this place, of shares of so many states.
-    fn share(self, place: usize, size: u32) -> Span {
-        let place = u32::try_from(place).ok().unwrap_or(u32::MAX);
-        let from = self.from.saturating_add(place.saturating_mul(size));
+    /// How many pieces it has.
+    fn pieces(self) -> u32 {
+        self.count().div_ceil(FEW)
+    }
+
+    /// The piece with this place.
+    fn piece(self, place: u32) -> Span {
+        let from = self.from.saturating_add(place.saturating_mul(FEW));
         Span {
             from: from.min(self.to),
-            to: from.saturating_add(size).min(self.to),
+            to: from.saturating_add(FEW).min(self.to),
         }
     }
 }
 
-/// A poll that does something in a state, where the key stands of the state that it leads to, and where that stands which was found of that
-/// one and of those behind it, whose keys follow its own.
+/// A poll that does something in a state; whether the state that it leads to was seen; if not, where its key stands, and where that stands
+/// which was found of it and of those behind it, whose keys follow its own.
 #[derive(Clone, Copy)]
 pub(crate) struct Reached {
     pub(crate) poll: Poll,
-    pub(crate) key: Place,
+    pub(crate) seen: bool,
+    key: Place,
     found: Place,
     found_keys: Place,
 }
@@ -79,9 +85,10 @@ pub(crate) struct Place {
     end: usize,
 }
 
-/// The polls that do something in states of which each has the number that follows.
+/// The polls that do something in the first of these states, each of which has the number that follows.
 #[derive(Drop)]
 pub(crate) struct Part {
+    pub(crate) span: Span,
     /// For each state, where its polls end.
     ends: Vec<usize>,
     polls: Vec<Reached>,
@@ -92,8 +99,9 @@ pub(crate) struct Part {
 }
 
 impl Part {
-    fn new(alloc: Global) -> Part {
+    fn new(alloc: Global, span: Span) -> Part {
         Part {
+            span,
             ends: Vec::new(alloc),
             polls: Vec::new(alloc),
             keys: Vec::new(alloc),
@@ -137,14 +145,17 @@ impl Part {
             .unwrap_or(&[])
     }
 
-    /// Adds a poll of the state that is looked at.
-    fn add(&mut self, poll: Poll, key: &[u64]) -> Result<(), Memory> {
+    /// Adds a poll of the state that is looked at. Of a state that was seen the key is not needed.
+    fn add(&mut self, poll: Poll, seen: bool, key: &[u64]) -> Result<(), Memory> {
         let start = self.keys.len();
-        self.keys.extend_from_slice(key)?;
+        if !seen {
+            self.keys.extend_from_slice(key)?;
+        }
         let end = self.keys.len();
         let found = self.found.len();
         self.polls.push(Reached {
             poll,
+            seen,
             key: Place { start, end },
             found: Place {
                 start: found,
@@ -167,8 +178,12 @@ impl Part {
     }
 
     /// Adds the poll that was found of a state, and what was found behind it.
-    fn add_ahead(&mut self, poll: Poll, ahead: &Ahead) -> Result<(), Memory> {
-        self.add(poll, ahead.first_key())?;
+    fn add_ahead(&mut self, states: &States, poll: Poll, ahead: Ahead) -> Result<(), Memory> {
+        let key = ahead.first_key();
+        if states.has(poll.hash, key) {
+            return self.add(poll, true, key);
+        }
+        self.add(poll, false, key)?;
         self.add_found(ahead.rest(), ahead.rest_keys())
     }
 
@@ -236,25 +251,61 @@ pub(crate) fn parts_of<R: Threads + Sync, G: Gate + Sync>(
     span: Span,
     workers: u8,
 ) -> Result<Vec<Part>, Memory> {
-    let workers = if span.count() < FEW {
-        1
-    } else {
-        u32::from(workers).max(1)
-    };
-    let size = span
-        .count()
-        .checked_div(workers)
-        .unwrap_or(0)
-        .saturating_add(1);
+    let workers = u32::from(workers).min(span.pieces()).max(1);
+    let next = AtomicU32::new(0);
     let found = thread::map_indices(
         rt,
         alloc,
         workers as usize,
-        &|place| part_of(alloc, task, gate, states, span.share(place, size)),
+        &|_worker| pieces_of(alloc, task, gate, states, span, &next),
     )?;
     let mut parts = Vec::new(alloc);
-    for part in found {
-        parts.push(part?)?;
+    for some in found {
+        for part in some? {
+            parts.push(part)?;
+        }
+    }
+    in_order(alloc, span, parts)
+}
+
+/// These parts in the order of their states.
+fn in_order(alloc: Global, span: Span, parts: Vec<Part>) -> Result<Vec<Part>, Memory> {
+    let mut places = Vec::new(alloc);
+    for _ in 0..span.pieces() {
+        places.push(None)?;
+    }
+    for part in parts {
+        let place = part.span.from.saturating_sub(span.from) / FEW;
+        if let Some(here) = places.get_mut(place as usize) {
+            *here = Some(part);
+        }
+    }
+    let mut sorted = Vec::new(alloc);
+    for part in places {
+        if let Some(part) = part {
+            sorted.push(part)?;
+        }
+    }
+    Ok(sorted)
+}
+
+/// The parts that a worker finds: it takes the next piece that none took, until there is none.
+fn pieces_of<G: Gate>(
+    alloc: Global,
+    task: Task,
+    gate: &G,
+    states: &States,
+    span: Span,
+    next: &AtomicU32,
+) -> Result<Vec<Part>, Memory> {
+    let mut parts = Vec::new(alloc);
+    let mut desk = Desk::new(alloc, task)?;
+    for _ in 0..span.pieces() {
+        let place = next.fetch_add(1, Ordering::SeqCst);
+        if place >= span.pieces() {
+            break;
+        }
+        parts.push(part_of(alloc, task, gate, states, span.piece(place), &mut desk)?)?;
     }
     Ok(parts)
 }
@@ -266,20 +317,21 @@ fn part_of<G: Gate>(
     gate: &G,
     states: &States,
     span: Span,
-) -> Result<Part, Memory> {
-    let mut part = Part::new(alloc);
-    let mut desk = Desk::new(alloc, task)?;
+    desk: &mut Desk,
+) -> Result<Part, Memory>
+    requires { TrialStands (program_of task.script.now) desk.old.trial }
+    ensures { OnOk result (TrialStands (program_of task.entry.script.now) desk.new.trial) }
+{
+    let mut part = Part::new(alloc, span);
     let mut order = Vec::new(alloc);
-    let mut place = 0;
     for state in span.from..span.to {
-        let ahead = states.aheads.of(state, &mut place);
         states.read_order(state, &mut order)?;
         let around = Around {
             task,
             states,
-            ahead,
+            ahead: states.aheads.of(state),
         };
-        add_polls(alloc, around, gate, &mut desk, &mut part, order.as_slice())?;
+        add_polls(alloc, around, gate, desk, &mut part, order.as_slice())?;
         part.end_state()?;
     }
     Ok(part)
@@ -291,7 +343,7 @@ struct Around<'a> {
     task: Task<'a>,
     states: &'a States,
     /// What was found of the state, if it was.
-    ahead: Option<&'a Ahead>,
+    ahead: Option<Ahead<'a>>,
 }
 
 impl Around<'_> {
@@ -334,7 +386,7 @@ fn add_polls<G: Gate>(
 /// Adds the poll that was found of the state, and what was found behind it.
 fn add_known(around: Around, part: &mut Part, poll: Poll) -> Result<(), Memory> {
     match around.ahead {
-        Some(ahead) => part.add_ahead(poll, ahead),
+        Some(ahead) => part.add_ahead(around.states, poll, ahead),
         None => Ok(()),
     }
 }
@@ -417,8 +469,11 @@ fn add_first<G: Gate>(
     if poll.local {
         part.take_back();
     }
-    part.add(poll, desk.keys.last())?;
-    look_ahead(around, gate, desk, part, poll)?;
+    let seen = around.states.has(poll.hash, desk.keys.last());
+    part.add(poll, seen, desk.keys.last())?;
+    if !seen && is_first(&mut desk.hashes, poll.hash) {
+        look_ahead(around, gate, desk, part, poll)?;
+    }
     Ok(Some(poll))
 }
 
@@ -454,7 +509,7 @@ fn poll_made(task: Task, desk: &mut Desk, polled: Polled) -> Result<Poll, Memory
     })
 }
 
-/// Looks at the state that this poll led to, if it is new; and on, as long as one poll suffices and leads to a state that is new.
+/// Looks at the state that this poll led to; and on, as long as one poll suffices and leads to a state that is new.
 fn look_ahead<G: Gate>(
     around: Around,
     gate: &G,
@@ -465,22 +520,11 @@ fn look_ahead<G: Gate>(
     requires { TrialStands (program_of around.task.script.now) desk.old.trial }
     ensures { OnOk result (TrialStands (program_of around.entry.task.script.now) desk.new.trial) }
 {
-    if !is_first(&mut desk.hashes, poll.hash) {
-        return Ok(());
-    }
     let mut before = poll;
     'states: for _ in 0..ROW {
-        if around.states.has(before.hash, desk.keys.last()) {
-            return Ok(());
-        }
         let stuck_from = desk.trial.stuck_from();
         let Some(polled) = poll_behind(around.task, gate, desk, before)? else {
-            let none = Found {
-                poll: None,
-                words: 0,
-                stuck_from,
-            };
-            return part.add_found(&[none], &[]);
+            return part.add_found(&[no_poll(stuck_from)], &[]);
         };
         let poll = poll_made(around.task, desk, polled)?;
         let found = Found {
@@ -489,12 +533,20 @@ fn look_ahead<G: Gate>(
             stuck_from,
         };
         part.add_found(&[found], desk.keys.last())?;
-        if !poll.local {
+        if !poll.local || around.states.has(poll.hash, desk.keys.last()) {
             return Ok(());
         }
         before = poll;
     }
     Ok(())
+}
+
+fn no_poll(stuck_from: Tag) -> Found {
+    Found {
+        poll: None,
+        words: 0,
+        stuck_from,
+    }
 }
 
 /// A poll that does something in the state that this poll led to, if there is one.

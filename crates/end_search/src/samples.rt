@@ -15,7 +15,7 @@ use std::alloc::Global;
 const RUNS: u32 = 40;
 
 /// So often the lines that are repeated most are made in all runs together, if each run makes them less often than a quarter of it.
-const MANY_TURNS: u64 = 20000000;
+const MANY_TURNS: u64 = 8000000;
 
 /// How many polls of an order there are for each coroutine.
 const POLLS: u64 = 32;

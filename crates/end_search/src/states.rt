@@ -3,6 +3,7 @@
 use crate::aheads::Aheads;
 use co_base::{Memory, Tag};
 use std::alloc::Global;
+use std::mem::replace;
 
 /// How many places a table of states has at first. It is a power of two, as each later number of them.
 const PLACES: usize = 1024;
@@ -10,14 +11,13 @@ const PLACES: usize = 1024;
 /// The states, numbered in the order in which they were first reached. The first is that before any poll, which has no key.
 ///
 /// The keys stand one behind another. A state of so many is found by a table of numbers, at the place that the hash of its key names, or
-/// the next free one; half of the places are free at least.
+/// the next free one; a quarter of the places is free at least.
 #[derive(Drop)]
 pub(crate) struct States {
     /// How each was reached: from which state, by a poll of which coroutine; and where its key ends.
     steps: Vec<Step>,
     keys: Vec<u64>,
-    /// At each place the number of a state, or 0.
-    places: Vec<u32>,
+    places: Vec<Seat>,
     most: usize,
     /// What was found of those that were not looked at yet.
     pub(crate) aheads: Aheads,
@@ -33,6 +33,15 @@ struct Step {
     from: u32,
     tag: Tag,
 }
+
+/// What stands at a place of the table: half of the hash of a key, and the number of the state that has it; 0, if the place is free.
+#[derive(Clone, Copy)]
+struct Seat {
+    hash: u32,
+    number: u32,
+}
+
+const FREE: Seat = Seat { hash: 0, number: 0 };
 
 /// Where a key stands in the table: at a state that has it, or at a place that is free for it.
 #[derive(Clone, Copy)]
@@ -52,7 +61,7 @@ impl States {
         Ok(States {
             steps,
             keys: Vec::new(alloc),
-            places: vec![in alloc; 0u32; PLACES]?,
+            places: vec![in alloc; FREE; PLACES]?,
             most: most as usize,
             aheads: Aheads::new(alloc),
             full: false,
@@ -72,7 +81,7 @@ impl States {
         hash: u64,
         key: &[u64],
     ) -> Result<Option<u32>, Memory> {
-        self.turns = self.turns.saturating_add(1);
+        self.count_turn();
         let Found::Free(place) = self.place_of(hash, key) else {
             return Ok(None);
         };
@@ -86,11 +95,17 @@ impl States {
             from,
             tag,
         })?;
-        self.put(place, number);
-        if self.steps.len() > self.places.len() / 2 {
+        let hash = half_of(hash);
+        self.put(place, Seat { hash, number });
+        if self.steps.len() > self.places.len() / 4 * 3 {
             self.grow()?;
         }
         Ok(Some(number))
+    }
+
+    /// A poll led to a state that was seen.
+    pub(crate) fn count_turn(&mut self) {
+        self.turns = self.turns.saturating_add(1);
     }
 
     /// Whether a state with this key, and the hash of it, was seen.
@@ -108,26 +123,42 @@ impl States {
 
     /// Where a state with this key stands, or may stand.
     fn place_of(&self, hash: u64, key: &[u64]) -> Found {
+        let half = half_of(hash);
         let mask = self.places.len().saturating_sub(1);
-        let mut place = hash as usize & mask;
+        let mut place = half as usize & mask;
         for _ in 0..self.places.len() {
-            match self.places.get(place).copied() {
-                None | Some(0) => return Found::Free(place),
-                Some(number) => {
-                    if self.key_of(number as usize) == key {
-                        return Found::Seen;
-                    }
-                }
+            let seat = self.seat_at(place);
+            if seat.number == 0 {
+                return Found::Free(place);
+            }
+            if seat.hash == half && self.key_of(seat.number as usize) == key {
+                return Found::Seen;
             }
             place = place.wrapping_add(1) & mask;
         }
         Found::Free(0)
     }
 
-    /// Puts the number of a state at a place of the table.
-    fn put(&mut self, place: usize, number: u32) {
+    fn seat_at(&self, place: usize) -> Seat {
+        self.places.get(place).copied().unwrap_or(FREE)
+    }
+
+    fn put(&mut self, place: usize, seat: Seat) {
         if let Some(here) = self.places.get_mut(place) {
-            *here = number;
+            *here = seat;
+        }
+    }
+
+    /// Puts it at the first free place for its hash.
+    fn put_again(&mut self, seat: Seat) {
+        let mask = self.places.len().saturating_sub(1);
+        let mut place = seat.hash as usize & mask;
+        for _ in 0..self.places.len() {
+            if self.seat_at(place).number == 0 {
+                self.put(place, seat);
+                return;
+            }
+            place = place.wrapping_add(1) & mask;
         }
     }
 
@@ -150,12 +181,11 @@ impl States {
     fn grow(&mut self) -> Result<(), Memory> {
         let alloc = *self.places.allocator();
         let count = self.places.len().saturating_mul(2);
-        self.places = vec![in alloc; 0u32; count]?;
-        for state in 1..self.steps.len() {
-            let number = u32::try_from(state).ok().unwrap_or(0);
-            let key = self.key_of(state);
-            if let Found::Free(place) = self.place_of(hash_of(key), key) {
-                self.put(place, number);
+        let more = vec![in alloc; FREE; count]?;
+        let old = replace(&mut self.places, more);
+        for seat in old.as_slice() {
+            if seat.number > 0 {
+                self.put_again(*seat);
             }
         }
         Ok(())
@@ -195,4 +225,9 @@ pub(crate) fn hash_of(key: &[u64]) -> u64 {
         hash = mixed ^ (mixed >> 32);
     }
     hash
+}
+
+/// The half of a hash by which its place is found.
+fn half_of(hash: u64) -> u32 {
+    u32::try_from(hash & 4294967295).ok().unwrap_or(0)
 }

@@ -199,6 +199,15 @@ impl Told {
         self.apart == other.apart
     }
 
+    /// The same once more.
+    pub(crate) fn copied(&self, alloc: Global) -> Result<Told, Memory> {
+        Ok(Told {
+            root: self.root,
+            lines: texts_copied(alloc, self.lines.as_slice())?,
+            apart: texts_copied(alloc, self.apart.as_slice())?,
+        })
+    }
+
     fn has_line(&self, front: &[u8], back: &[u8]) -> bool {
         for line in self.lines.as_slice() {
             if line.starts_with(front) && line.ends_with(back) {
@@ -207,4 +216,12 @@ impl Told {
         }
         false
     }
+}
+
+fn texts_copied(alloc: Global, texts: &[Vec<u8>]) -> Result<Vec<Vec<u8>>, Memory> {
+    let mut copies = Vec::new(alloc);
+    for text in texts {
+        copies.push(Vec::from_slice(alloc, text.as_slice())?)?;
+    }
+    Ok(copies)
 }

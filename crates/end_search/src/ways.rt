@@ -142,12 +142,12 @@ fn look_through<R: Threads + Sync, G: Gate + Sync, E: Sink>(
             search.workers,
         )?;
         for part in parts.as_slice() {
-            if add_part(alloc, search, gate, course, errors, from, part)? {
+            if add_part(alloc, search, gate, course, errors, part)? {
                 return Ok(true);
             }
-            from = from.saturating_add(number_of(part.count()));
+            from = part.span.from.saturating_add(number_of(part.count()));
         }
-        course.states.aheads.leave_behind(from);
+        course.states.aheads.leave_behind(alloc, from);
     }
     Ok(false)
 }
@@ -165,18 +165,17 @@ fn number_of(count: usize) -> u32 {
     u32::try_from(count).ok().unwrap_or(u32::MAX)
 }
 
-/// Adds what was found of states, of which the first has this number. The answer says whether as many ends are there as are looked for.
+/// Adds what was found of states. The answer says whether as many ends are there as are looked for.
 fn add_part<G: Gate, E: Sink>(
     alloc: Global,
     search: Search,
     gate: &G,
     course: &mut Course,
     errors: &mut E,
-    first: u32,
     part: &Part,
 ) -> Result<bool, Memory> {
     for place in 0..part.count() {
-        let state = first.saturating_add(number_of(place));
+        let state = part.span.from.saturating_add(number_of(place));
         if state > 0 && state % STEP == 0 {
             tell_progress(alloc, errors, state, &course.states, course.ends.len())?;
         }
@@ -198,6 +197,10 @@ fn add_part<G: Gate, E: Sink>(
 /// Adds the state that a poll in this state leads to, if it is new, and what was found of it.
 fn add_state(states: &mut States, state: u32, part: &Part, reached: Reached) -> Result<(), Memory> {
     let poll = reached.poll;
+    if reached.seen {
+        states.count_turn();
+        return Ok(());
+    }
     let key = part.key_of(reached);
     let Some(number) = states.add(state, poll.tag, poll.hash, key)? else {
         return Ok(());
@@ -235,6 +238,11 @@ fn push_end<G: Gate>(
     order: Vec<Tag>,
 ) -> Result<(), Memory> {
     let way = way_of(alloc, search, gate, order)?;
+    push_way(search, course, way)
+}
+
+/// The same of an end that is known.
+fn push_way(search: Search, course: &mut Course, way: Way) -> Result<(), Memory> {
     if is_new(&course.ends, &way, search.wanted, &course.usual) {
         course.ends.push(way)?;
     }
@@ -250,7 +258,11 @@ fn sample<G: Gate>(
 ) -> Result<bool, Memory> {
     let script = search.task.script;
     let mut trial = Trial::new(alloc, script)?;
-    push_end(alloc, search, gate, course, Vec::new(alloc))?;
+    let usual = Way {
+        order: Vec::new(alloc),
+        told: course.usual.copied(alloc)?,
+    };
+    push_way(search, course, usual)?;
     let mut numbers = Numbers::new();
     let runs = runs_of(alloc, script)?;
     for run in 0..runs {
