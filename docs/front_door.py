@@ -57,6 +57,8 @@ WORDS = [
     (2, "explore --fnid held", "", "explore has no option '--fnid'"),
     (2, "explore --find", "", "--find has no value"),
     (2, "judge --all", "", "judge has no option '--all'; it takes a history, or a script and its log or report"),
+    (2, "log --sede 1", "", "log has no option '--sede'"),
+    (2, "log none.co", "", "there is no file 'none.co' for log to read"),
     (70, "run README.md", "", "the toolchain's command rt is not found on the path"),
 ]
 
@@ -143,7 +145,7 @@ def seconds():
 
 def usage_of(top, word):
     """The usage line of the program that a word starts, as its sources have it."""
-    crate = {"picture": "run_picture", "explain": "explain_run", "explore": "run_explore", "judge": "judge_run"}.get(word)
+    crate = {"picture": "run_picture", "explain": "explain_run", "explore": "run_explore", "judge": "judge_run", "log": "judge_run"}.get(word)
     if crate is None:
         return USAGE
     with open(os.path.join(top, "crates", crate, "src", "outcome.rt"), encoding="utf-8") as file:

@@ -1,5 +1,5 @@
 -- The line of what is said.
-use Rattle.std.specs.Prelude.{◌≡◌, ℕ, List, ◌++◌, Option, Some, None}
+use Rattle.std.specs.Prelude.{◌≡◌, ℕ, List, [], ◌++◌, Option, Some, None}
 use Rattle.std.specs.Fmt.{decimal}
 use lib.Chars.{codes}
 use Rattle.script_grammar.specs.declared.fault.FaultKind.{FaultKind}
@@ -53,7 +53,7 @@ script_text (of_script.Report (of_report.Stands root)) = stands_text root
 script_text (of_script.Report (of_report.NotFound n)) = codes "not found: line " ++ decimal n ++ codes "\n"
 script_text (of_script.Fault fault) = fault_text fault
 
--- the line, with its line feed
+-- the line, with its line feed; a log has none but its own
 abbrev pub said_text : Said → List ℕ
 said_text said.Legal = codes "legal\n"
 said_text (said.MayNotCome n) = codes "line " ++ decimal n ++ codes ": may not come\n"
@@ -61,6 +61,9 @@ said_text (said.NotSo n) = codes "line " ++ decimal n ++ codes ": not so\n"
 said_text (said.NoItem n) = codes "line " ++ decimal n ++ codes ": no item\n"
 said_text (said.Fault fault) = fault_text fault
 said_text (said.OfScript v) = script_text v
+said_text (said.Logged root) = []
+said_text said.NotLogged = codes "no log\n"
+said_text (said.NoScript fault) = fault_text fault
 
 -- the text begins with the line of what is said; of the rest nothing is promised
 pub record HasLine (said : Said) (text : List ℕ) : Type 0 where

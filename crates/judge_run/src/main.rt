@@ -1,5 +1,5 @@
 //! The program: channels and a history of them and of Jobs from standard input, or a script and a log or a report of it, and whether the
-//! rules allow it on standard output.
+//! rules allow it on standard output; or, with `--log`, a script from standard input, and the log of a run of it on standard output.
 //!
 //! - `words`: which words are accepted.
 //! - `outcome`: what a call comes to.

@@ -5,11 +5,12 @@ ghost use Rattle.std.specs.Process.{exit_status};
 ghost use Rattle.judge_run.specs.Outcomes.{message_of, number_of, number_of_log, number_of_said, number_of_script};
 
 use history_text::ScriptFault;
+use job_model::End;
 use log_check::{LogVerdict, ReportVerdict, ScriptVerdict};
 use std::process::ExitCode;
 use thiserror::Error;
 
-/// What is said of an input. The lines of its history, log or report are numbered from 1.
+/// What is said of an input, or of a log that was made. The lines of a history, log or report are numbered from 1.
 #[derive(Clone, Copy)]
 pub enum Said {
     /// Each act may come where it comes, and each note holds.
@@ -24,6 +25,12 @@ pub enum Said {
     Fault(ScriptFault),
     /// This is said of a script and of a log or a report.
     OfScript(ScriptVerdict),
+    /// The log of a run was made, which is the whole text, and the root's Job ended so, if it did.
+    Logged(Option<End>),
+    /// The log that was made does not stand.
+    NotLogged,
+    /// A log is asked for of what is no script, with this fault.
+    NoScript(ScriptFault),
 }
 
 /// What a call comes to.
@@ -48,7 +55,7 @@ pub enum Outcome {
 /// What standard error says.
 #[derive(Clone, Copy, Debug, Error)]
 pub enum Message {
-    #[error("usage: judge_run < INPUT")]
+    #[error("usage: judge_run [--log] [--seed N] < INPUT")]
     Usage,
     #[error("the input has no line `history`, `log` or `report`")]
     NoHistory,
@@ -87,9 +94,10 @@ fn number_of_said(said: Said) -> u8
     ensures { result ≡ number_of_said said }
 {
     match said {
-        Said::Legal => 0,
+        Said::Legal | Said::Logged(_) => 0,
         Said::MayNotCome(_) | Said::NotSo(_) | Said::NoItem(_) => 1,
-        Said::Fault(_) => 3,
+        Said::Fault(_) | Said::NoScript(_) => 3,
+        Said::NotLogged => 4,
         Said::OfScript(v) => number_of_script(v),
     }
 }

@@ -4,13 +4,10 @@ ghost use Rattle.std.specs.Prelude.{◌≡◌, ◌++◌, IfOk, Some, string_byte
 ghost use Rattle.judge_run.specs.Texts.{HasLine, fault_text, kind_text, log_text, said_text, script_text, stands_text};
 
 use crate::outcome::Said;
-use co_base::{ChannelId, Memory, Row};
-use history_check::Stood;
-use history_text::{FaultKind, Input, ScriptFault};
-use job_model::{Cause, End, JobState};
-use job_replay::JobLook;
+use co_base::Memory;
+use history_text::{FaultKind, ScriptFault};
+use job_model::End;
 use log_check::{LogVerdict, ReportVerdict, ScriptVerdict};
-use one_thread_floor::Snapshot;
 use std::alloc::{AllocError, Global};
 use std::fmt;
 
@@ -99,117 +96,27 @@ fn line_of(alloc: Global, said: Said) -> Result<String, AllocError>
         Said::MayNotCome(line) => format!(in alloc; "line {line}: may not come\n"),
         Said::NotSo(line) => format!(in alloc; "line {line}: not so\n"),
         Said::NoItem(line) => format!(in alloc; "line {line}: no item\n"),
-        Said::Fault(fault) => fault_line(alloc, fault),
+        Said::Fault(fault) | Said::NoScript(fault) => fault_line(alloc, fault),
         Said::OfScript(v) => script_line(alloc, v),
+        Said::Logged(_) => Ok(String::new(alloc)),
+        Said::NotLogged => format!(in alloc; "no log\n"),
     }
 }
 
-/// The text of what is said: its line, and then, without any promise, what stood at the channel or the Job of the line
-/// at fault.
-pub(crate) fn text_of(
-    alloc: Global,
-    said: Said,
-    input: Option<&Input>,
-    stood: Option<Stood>,
-) -> Result<Vec<u8>, Memory>
+/// The text of what is said: its line, and then a hint, without any promise.
+pub(crate) fn text_of(alloc: Global, said: Said, hint: &[u8]) -> Result<Vec<u8>, Memory>
     ensures { IfOk result (λ text. HasLine said text.items) }
 {
     let line = line_of(alloc, said)?;
-    let hint = hint_if_any(alloc, input, stood)?;
-    let text = appended(line, &hint)?;
+    let text = appended(line, hint)?;
     Ok(text)
 }
 
 /// A line, and then a hint.
-fn appended(line: String, hint: &Vec<u8>) -> Result<Vec<u8>, AllocError>
-    ensures { IfOk result (λ text. text.items ≡ string_bytes line ++ hint.now.items) }
+fn appended(line: String, hint: &[u8]) -> Result<Vec<u8>, AllocError>
+    ensures { IfOk result (λ text. text.items ≡ string_bytes line ++ hint.now) }
 {
     let mut text = line.into_bytes();
-    text.extend_from_slice(hint.as_slice())?;
-    Ok(text)
-}
-
-fn hint_if_any(
-    alloc: Global,
-    input: Option<&Input>,
-    stood: Option<Stood>,
-) -> Result<Vec<u8>, AllocError> {
-    match (input, stood) {
-        (Some(input), Some(Stood::Channel(c, at))) => channel_hint(alloc, input, c, at),
-        (Some(_), Some(Stood::Job(row, look))) => job_hint(alloc, row, look),
-        _ => Ok(Vec::new(alloc)),
-    }
-}
-
-/// What stood at a channel, in words.
-fn channel_hint(
-    alloc: Global,
-    input: &Input,
-    c: ChannelId,
-    at: Snapshot,
-) -> Result<Vec<u8>, AllocError> {
-    let mut text = Vec::new(alloc);
-    let channels = input.script.channels();
-    if channels.len() <= c as usize {
-        return Ok(text);
-    }
-    let name = channels[c as usize].name.as_str();
-    let next = at.next;
-    let queued = at.queued;
-    let first = format!(in alloc; "{name}: place {next} is next, {queued} queued")?;
-    text.extend_from_slice(first.as_bytes())?;
-    if let Some(offer) = at.first_offer {
-        let value = offer.value;
-        let place = offer.place;
-        let part = format!(in alloc; ", first {value} at place {place}")?;
-        text.extend_from_slice(part.as_bytes())?;
-    }
-    if let Some(receiver) = at.first_receiver {
-        let place = receiver.place;
-        let part = format!(in alloc; ", a receiver waits at place {place}")?;
-        text.extend_from_slice(part.as_bytes())?;
-    }
-    if let Some(value) = at.closed {
-        let part = format!(in alloc; ", closed with {value}")?;
-        text.extend_from_slice(part.as_bytes())?;
-    }
-    text.extend_from_slice(b"\n")?;
-    Ok(text)
-}
-
-/// How far a Job is, as it is printed: with its result where it has one.
-fn state_text(alloc: Global, job: JobLook) -> Result<String, AllocError> {
-    let value = job.value;
-    match job.state {
-        JobState::New => format!(in alloc; "new"),
-        JobState::Active => format!(in alloc; "active"),
-        JobState::Completing => format!(in alloc; "completing with {value}"),
-        JobState::Cancelling => format!(in alloc; "cancelling"),
-        JobState::Cancelled => format!(in alloc; "cancelled"),
-        JobState::Completed => format!(in alloc; "completed with {value}"),
-    }
-}
-
-/// What stood at the row of a Job, in words.
-fn job_hint(alloc: Global, row: Row, look: Option<JobLook>) -> Result<Vec<u8>, AllocError> {
-    let mut text = Vec::new(alloc);
-    let first = format!(in alloc; "row {row}: ")?;
-    text.extend_from_slice(first.as_bytes())?;
-    let Some(job) = look else {
-        text.extend_from_slice(b"not attached\n")?;
-        return Ok(text);
-    };
-    let state = state_text(alloc, job)?;
-    text.extend_from_slice(state.as_bytes())?;
-    if let Cause::Failure(failed) = job.cause {
-        let part = format!(in alloc; " by the failure of {failed}")?;
-        text.extend_from_slice(part.as_bytes())?;
-    }
-    if job.body_ended {
-        text.extend_from_slice(b", its body has ended")?;
-    }
-    let living = job.living;
-    let part = format!(in alloc; ", {living} of its children live\n")?;
-    text.extend_from_slice(part.as_bytes())?;
+    text.extend_from_slice(hint)?;
     Ok(text)
 }

@@ -1,17 +1,18 @@
 //! The whole call, over any source and sink.
 
-ghost use Rattle.std.specs.Prelude.{◌≡◌, ◌≤◌, IfOk, length, map, string_bytes, true};
-ghost use Rattle.judge_run.specs.Words.{is_asked};
+ghost use Rattle.std.specs.Prelude.{◌≡◌, ◌≤◌, IfOk, Some, length, map, string_bytes};
+ghost use Rattle.judge_run.specs.Words.{asked_of};
 ghost use Rattle.judge_run.specs.Outcomes.{IsJudged, IsJudgedAs, IsMade, IsMadeOf, IsToldAs, IsWritten, Means, said_of, stream};
 
 use crate::outcome::{Outcome, Said};
 use crate::reading::read_all;
 use crate::texts::text_of;
-use crate::words::is_asked;
+use crate::words::{Asked, asked_of};
 use co_base::{Memory, OpenGate, ReadError, Sink, Source, write_all};
-use history_check::{Verdict, check_input};
+use history_check::{Stood, Verdict, check_input};
 use history_text::{Input, NoInput, read_input};
-use log_check::judge_script;
+use log_check::{Logged, judge_script, make_log, stood_text};
+use script_reader::Channel;
 use std::alloc::Global;
 
 /// What is said, and the text that says it.
@@ -22,7 +23,7 @@ pub struct Answer {
 }
 
 /// Does what the words ask for, of which the first is the program's name: reads an input, and writes what is said
-/// of it.
+/// of it, or reads a script, and writes the log of a run of it.
 ///
 /// The order is words, input, answer; the text is made whole before its first byte is written.
 pub fn judge_main<S: Source, K: Sink>(
@@ -31,7 +32,7 @@ pub fn judge_main<S: Source, K: Sink>(
     source: &mut S,
     sink: &mut K,
 ) -> Outcome
-    ensures { Means result (is_asked (map string_bytes words.now)) (stream (S.left source.old) (S.faults source.old))
+    ensures { Means result (asked_of (map string_bytes words.now)) (stream (S.left source.old) (S.faults source.old))
         (stream (S.left source.new) (S.faults source.new)) (stream (K.held sink.old) (K.faults sink.old))
         (stream (K.held sink.new) (K.faults sink.new)) }
 {
@@ -58,47 +59,80 @@ fn make_answer<S: Source>(
     words: &[String],
     source: &mut S,
 ) -> Result<Answer, Outcome>
-    ensures { IsMade result (is_asked (map string_bytes words.now)) (stream (S.left source.old) (S.faults source.old))
+    ensures { IsMade result (asked_of (map string_bytes words.now)) (stream (S.left source.old) (S.faults source.old))
         (stream (S.left source.new) (S.faults source.new)) }
 {
-    match is_asked(alloc, words) {
-        Ok(asked) => make_if(alloc, asked, source),
+    match asked_of(alloc, words) {
+        Ok(wanted) => make_if(alloc, wanted, source),
         Err(_) => Err(Outcome::NoMemory),
     }
 }
 
-/// Makes the answer, if it is asked for.
-fn make_if<S: Source>(alloc: Global, asked: bool, source: &mut S) -> Result<Answer, Outcome>
-    ensures { IsMade result asked (stream (S.left source.old) (S.faults source.old))
+/// Makes the answer, if one is asked for.
+fn make_if<S: Source>(
+    alloc: Global,
+    wanted: Option<Asked>,
+    source: &mut S,
+) -> Result<Answer, Outcome>
+    ensures { IsMade result wanted (stream (S.left source.old) (S.faults source.old))
         (stream (S.left source.new) (S.faults source.new)) }
 {
-    if asked {
-        read_answer(alloc, source)
-    } else {
-        Err(Outcome::Refused)
+    match wanted {
+        Some(request) => read_answer(alloc, request, source),
+        None => Err(Outcome::Refused),
     }
 }
 
 /// Makes the answer to what the source gives.
-fn read_answer<S: Source>(alloc: Global, source: &mut S) -> Result<Answer, Outcome>
-    ensures { IsMade result true (stream (S.left source.old) (S.faults source.old))
+fn read_answer<S: Source>(alloc: Global, request: Asked, source: &mut S) -> Result<Answer, Outcome>
+    ensures { IsMade result (Some request) (stream (S.left source.old) (S.faults source.old))
         (stream (S.left source.new) (S.faults source.new)) }
 {
     match read_all(alloc, source) {
-        Ok(bytes) => answer_of(alloc, bytes.as_slice()),
+        Ok(bytes) => answer_to(alloc, request, bytes.as_slice()),
         Err(ReadError::TooLong) => Err(Outcome::TooLong),
         Err(ReadError::ReadFault) => Err(Outcome::ReadFault),
         Err(ReadError::Memory) => Err(Outcome::NoMemory),
     }
 }
 
+/// Makes the answer to these bytes.
+fn answer_to(alloc: Global, request: Asked, bytes: &[u8]) -> Result<Answer, Outcome>
+    requires { length bytes.now ≤ 67108864 }
+    ensures { IsMadeOf request bytes.now result }
+{
+    match request {
+        Asked::Verdict => answer_of(alloc, bytes),
+        Asked::Log(seed) => log_answer(alloc, bytes, seed),
+    }
+}
+
+/// Makes the log of a run of the script that these bytes spell.
+fn log_answer(alloc: Global, bytes: &[u8], seed: u32) -> Result<Answer, Outcome>
+    ensures { IsMadeOf (Asked.Log seed) bytes.now result }
+{
+    match make_log(alloc, bytes, seed, &OpenGate) {
+        Ok(Logged::Log(text, root)) => Ok(Answer {
+            said: Said::Logged(root),
+            text,
+        }),
+        Ok(Logged::NotShown) => told(alloc, Said::NotLogged, &[]),
+        Ok(Logged::Fault(fault)) => told(alloc, Said::NoScript(fault), &[]),
+        Err(_) => Err(Outcome::NoMemory),
+    }
+}
+
 /// Makes the answer to these bytes: of a script with a log or a report, or of a history.
 fn answer_of(alloc: Global, bytes: &[u8]) -> Result<Answer, Outcome>
     requires { length bytes.now ≤ 67108864 }
-    ensures { IsMadeOf bytes.now result }
+    ensures { IsMadeOf Asked.Verdict bytes.now result }
 {
     match judge_script(alloc, bytes, &OpenGate) {
-        Ok(Some(v)) => told(alloc, Said::OfScript(v)),
+        Ok(Some(judged)) => told(
+            alloc,
+            Said::OfScript(judged.verdict),
+            judged.hint.as_slice(),
+        ),
         Ok(None) => history_answer(alloc, bytes),
         Err(_) => Err(Outcome::NoMemory),
     }
@@ -107,22 +141,22 @@ fn answer_of(alloc: Global, bytes: &[u8]) -> Result<Answer, Outcome>
 /// Makes the answer to a history.
 fn history_answer(alloc: Global, bytes: &[u8]) -> Result<Answer, Outcome>
     requires { length bytes.now ≤ 67108864 }
-    ensures { IsMadeOf bytes.now result }
+    ensures { IsMadeOf Asked.Verdict bytes.now result }
 {
     match read_input(alloc, bytes) {
         Ok(input) => judged(alloc, &input),
         Err(NoInput::NoHistory) => Err(Outcome::NoHistory),
-        Err(NoInput::Fault(fault)) => told(alloc, Said::Fault(fault)),
-        Err(NoInput::NoItem(line)) => told(alloc, Said::NoItem(line)),
+        Err(NoInput::Fault(fault)) => told(alloc, Said::Fault(fault), &[]),
+        Err(NoInput::NoItem(line)) => told(alloc, Said::NoItem(line), &[]),
         Err(NoInput::Memory) => Err(Outcome::NoMemory),
     }
 }
 
-/// An answer without more than its line.
-fn told(alloc: Global, said: Said) -> Result<Answer, Outcome>
+/// An answer with a hint.
+fn told(alloc: Global, said: Said, hint: &[u8]) -> Result<Answer, Outcome>
     ensures { IsToldAs said result }
 {
-    match text_of(alloc, said, None, None) {
+    match text_of(alloc, said, hint) {
         Ok(text) => Ok(Answer { said, text }),
         Err(_) => Err(Outcome::NoMemory),
     }
@@ -155,6 +189,15 @@ fn judged_answer(alloc: Global, input: &Input) -> Result<Answer, Memory>
 {
     let judgement = check_input(alloc, input)?;
     let said = said_of(judgement.verdict);
-    let text = text_of(alloc, said, Some(input), judgement.stood)?;
+    let hint = hint_of(alloc, input.script.channels(), judgement.stood)?;
+    let text = text_of(alloc, said, hint.as_slice())?;
     Ok(Answer { said, text })
+}
+
+/// What stood at the channel or the Job of the line where a history stops, in words.
+fn hint_of(alloc: Global, channels: &[Channel], stood: Option<Stood>) -> Result<Vec<u8>, Memory> {
+    match stood {
+        Some(stood) => stood_text(alloc, channels, stood),
+        None => Ok(Vec::new(alloc)),
+    }
 }

@@ -18,6 +18,8 @@ use Rattle.history_check.specs.Histories.{IsAllowed}
 use Rattle.history_check.specs.Verdicts.{IsVerdict}
 use Rattle.log_check.specs.declared.verdict.LogVerdict.{LogVerdict}
 use Rattle.log_check.specs.declared.verdict.LogVerdict.TheVariants as of_log
+use Rattle.log_check.specs.declared.verdict.Logged.{Logged}
+use Rattle.log_check.specs.declared.verdict.Logged.TheVariants as logged
 use Rattle.log_check.specs.declared.verdict.ReportVerdict.{ReportVerdict}
 use Rattle.log_check.specs.declared.verdict.ReportVerdict.TheVariants as of_report
 use Rattle.log_check.specs.declared.verdict.ScriptVerdict.{ScriptVerdict}
@@ -115,3 +117,17 @@ abbrev pub IsScriptVerdict : ScriptVerdict → List ℕ → Type 0
 IsScriptVerdict (of_script.Log v) input = IsSaidOf (word_of subject.Log) input (IsLogVerdict v)
 IsScriptVerdict (of_script.Report v) input = IsSaidOf (word_of subject.Report) input (IsReportVerdict v)
 IsScriptVerdict (of_script.Fault fault) input = (word : List ℕ) × IsNoScript fault word input
+
+-- ---- a log that is made
+
+-- the text stands by a program
+abbrev pub IsLoggedBy : Logged → Program → Type 0
+IsLoggedBy (logged.Log text root) p = IsLogVerdict (of_log.Stands root) p text.items
+IsLoggedBy logged.NotShown p = Unit {0}
+IsLoggedBy (logged.Fault fault) p = ⊥
+
+-- the text stands by the program that the bytes spell; or they have this fault
+abbrev pub IsLogged : Logged → List ℕ → Type 0
+IsLogged (logged.Log text root) bytes = (program : Program) × Spells bytes program × IsLogVerdict (of_log.Stands root) program text.items
+IsLogged logged.NotShown bytes = Unit {0}
+IsLogged (logged.Fault fault) bytes = FirstFault bytes fault

@@ -4,10 +4,11 @@ ghost use Rattle.std.specs.Prelude.{◌≤◌, IfOk, IfSome, length};
 ghost use Rattle.script_reader.specs.Scripts.{program_of};
 ghost use Rattle.log_check.specs.Verdicts.{IsScriptVerdict, IsVerdictBy, IsVerdictOn};
 
-use crate::log::judge_log;
+use crate::hints::hint_text;
+use crate::log::judge_text;
 use crate::parts::{Subject, parts_of};
-use crate::report::judge_report;
-use crate::verdict::ScriptVerdict;
+use crate::report::judge_lines;
+use crate::verdict::{Judged, ScriptVerdict};
 use co_base::{Gate, Memory};
 use script_grammar::FaultKind;
 use script_reader::{Script, read};
@@ -20,13 +21,27 @@ fn judge_by<G: Gate>(
     subject: Subject,
     text: &[u8],
     gate: &G,
-) -> Result<ScriptVerdict, Memory>
+) -> Result<Judged, Memory>
     requires { length text.now ≤ 67108864 }
-    ensures { IfOk result (λ v. IsVerdictBy v subject (program_of script.now) text.now) }
+    ensures { IfOk result (λ v. IsVerdictBy v.verdict subject (program_of script.now) text.now) }
 {
     match subject {
-        Subject::Log => Ok(ScriptVerdict::Log(judge_log(alloc, script, text, gate)?)),
-        Subject::Report => Ok(ScriptVerdict::Report(judge_report(alloc, script, text, gate)?)),
+        Subject::Log => {
+            let judged = judge_text(alloc, script, text, None, gate)?;
+            let hint = hint_text(alloc, script.channels(), judged.1)?;
+            Ok(Judged {
+                verdict: ScriptVerdict::Log(judged.0),
+                hint,
+            })
+        }
+        Subject::Report => {
+            let judged = judge_lines(alloc, script, text, gate)?;
+            let hint = hint_text(alloc, script.channels(), judged.1)?;
+            Ok(Judged {
+                verdict: ScriptVerdict::Report(judged.0),
+                hint,
+            })
+        }
     }
 }
 
@@ -37,15 +52,18 @@ fn judge_parts<G: Gate>(
     subject: Subject,
     text: &[u8],
     gate: &G,
-) -> Result<ScriptVerdict, Memory>
+) -> Result<Judged, Memory>
     requires { length text.now ≤ 67108864 }
-    ensures { IfOk result (λ v. IsVerdictOn v subject script.now text.now) }
+    ensures { IfOk result (λ v. IsVerdictOn v.verdict subject script.now text.now) }
 {
     match read(alloc, script) {
         Ok(script) => judge_by(alloc, &script, subject, text, gate),
         Err(fault) => match fault.kind {
             FaultKind::Memory => Err(Memory),
-            _ => Ok(ScriptVerdict::Fault(fault)),
+            _ => Ok(Judged {
+                verdict: ScriptVerdict::Fault(fault),
+                hint: Vec::new(alloc),
+            }),
         },
     }
 }
@@ -57,9 +75,9 @@ pub fn judge_script<G: Gate>(
     alloc: Global,
     bytes: &[u8],
     gate: &G,
-) -> Result<Option<ScriptVerdict>, Memory>
+) -> Result<Option<Judged>, Memory>
     requires { length bytes.now ≤ 67108864 }
-    ensures { IfOk result (λ found. IfSome found (λ v. IsScriptVerdict v bytes.now)) }
+    ensures { IfOk result (λ found. IfSome found (λ v. IsScriptVerdict v.verdict bytes.now)) }
 {
     match parts_of(bytes) {
         Some((script, subject, text)) => {

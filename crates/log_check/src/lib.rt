@@ -7,7 +7,8 @@
 //! - `names`: the names of channels, and the lines of a log.
 //! - `same`: whether two notes are the same.
 //! - `books`: the books that the lines of a log are.
-//! - `verdict`: what is said of an input.
+//! - `verdict`: what is said of an input; `hints`: what is known of the line where that stops.
+//! - `polled`: a run made by polls, and whose notes it made.
 //! - `plan`: what the lines of a report say of the whole run.
 //! - `sleepers`: who is not worth a poll before something happens.
 //! - `queues`: what stands in the channels of a run; `rows`: how far its Jobs are.
@@ -16,14 +17,18 @@
 //! - `way`: the order in which a run writes given lines.
 //! - `log`: a log, judged; `report`: a report, judged.
 //! - `input`: an input, judged.
+//! - `made`: the log of a run, made and judged.
 #![tactic(auto)]
 
 mod books;
+mod hints;
 mod input;
 mod log;
+mod made;
 mod names;
 mod parts;
 mod plan;
+mod polled;
 mod queues;
 mod report;
 mod rows;
@@ -34,7 +39,9 @@ mod verdict;
 mod walk;
 mod way;
 
+pub use hints::stood_text;
 pub use input::judge_script;
 pub use log::judge_log;
+pub use made::make_log;
 pub use report::judge_report;
-pub use verdict::{LogVerdict, ReportVerdict, ScriptVerdict};
+pub use verdict::{Judged, LogVerdict, Logged, ReportVerdict, ScriptVerdict};

@@ -11,13 +11,14 @@ ghost use Rattle.log_check.specs.Logs.{AreOf, books_in};
 ghost use Rattle.log_check.specs.Verdicts.{IsLinesVerdict, IsLogVerdict};
 
 use crate::books::{books_of, first_stranger, same_books};
+use crate::hints::Hint;
 use crate::names::lines_of;
 use crate::verdict::LogVerdict;
 use crate::way::{Way, way_of_log};
 use co_base::{Gate, Memory, Tag};
 use engine_base::kinds_of;
 use engine_one::run_in_order;
-use history_check::{Judgement, Verdict, check_history};
+use history_check::{Judgement, Stood, Verdict, check_history};
 use history_text::{JobNumbers, Line, NoLines};
 use note_book::Notes;
 use script_reader::Script;
@@ -45,22 +46,38 @@ fn made_again<G: Gate>(
     }
 }
 
-/// Looks for the run that has this log.
+/// What stood there, if anything is known.
+fn stood_there(stood: Option<Stood>) -> Hint {
+    match stood {
+        Some(stood) => Hint::Stood(stood),
+        None => Hint::Nothing,
+    }
+}
+
+/// Makes the run again that has this log: in the order that is given, or in one that is looked for.
 fn shown<G: Gate>(
     alloc: Global,
     script: &Script,
     lines: &[Line],
+    given: Option<&[Tag]>,
     gate: &G,
-) -> Result<LogVerdict, Memory>
+) -> Result<(LogVerdict, Hint), Memory>
     requires { IsAllowed (floor_shape (program_of script.now)) (job_shape (program_of script.now)) lines.now }
-    ensures { IfOk result (λ v. IsLinesVerdict v (program_of script.now) lines.now) }
+    ensures { IfOk result (λ v. IsLinesVerdict v.0 (program_of script.now) lines.now) }
 {
     if let Some(number) = first_stranger(lines, script.coroutines()) {
-        return Ok(LogVerdict::NotShown(number));
+        return Ok((LogVerdict::NotShown(number), Hint::Nothing));
+    }
+    if let Some(order) = given {
+        let verdict = made_again(alloc, script, lines, order, gate)?;
+        return Ok((verdict, Hint::Nothing));
     }
     match way_of_log(alloc, script, lines, gate)? {
-        Way::Found(order) => made_again(alloc, script, lines, order.as_slice(), gate),
-        Way::Stuck(number) => Ok(LogVerdict::NotShown(number)),
+        Way::Found(order) => {
+            let verdict = made_again(alloc, script, lines, order.as_slice(), gate)?;
+            Ok((verdict, Hint::Nothing))
+        }
+        Way::Stuck(number, hint) => Ok((LogVerdict::NotShown(number), hint)),
     }
 }
 
@@ -82,15 +99,36 @@ fn judge_lines<G: Gate>(
     alloc: Global,
     script: &Script,
     lines: &[Line],
+    given: Option<&[Tag]>,
     gate: &G,
-) -> Result<LogVerdict, Memory>
-    ensures { IfOk result (λ v. IsLinesVerdict v (program_of script.now) lines.now) }
+) -> Result<(LogVerdict, Hint), Memory>
+    ensures { IfOk result (λ v. IsLinesVerdict v.0 (program_of script.now) lines.now) }
 {
     let judgement = checked(alloc, script, lines)?;
     match judgement.verdict {
-        Verdict::Legal => shown(alloc, script, lines, gate),
-        Verdict::MayNotCome(number) => Ok(LogVerdict::MayNotCome(number)),
-        Verdict::NotSo(number) => Ok(LogVerdict::NotSo(number)),
+        Verdict::Legal => shown(alloc, script, lines, given, gate),
+        Verdict::MayNotCome(number) => {
+            Ok((LogVerdict::MayNotCome(number), stood_there(judgement.stood)))
+        }
+        Verdict::NotSo(number) => Ok((LogVerdict::NotSo(number), stood_there(judgement.stood))),
+    }
+}
+
+/// Judges the text of a log: the run is made again in the order that is given, or in one that is looked for.
+pub(crate) fn judge_text<G: Gate>(
+    alloc: Global,
+    script: &Script,
+    text: &[u8],
+    given: Option<&[Tag]>,
+    gate: &G,
+) -> Result<(LogVerdict, Hint), Memory>
+    requires { length text.now ≤ 67108864 }
+    ensures { IfOk result (λ v. IsLogVerdict v.0 (program_of script.now) text.now) }
+{
+    match lines_of(alloc, script, text) {
+        Ok(lines) => judge_lines(alloc, script, lines.as_slice(), given, gate),
+        Err(NoLines::AtLine(number)) => Ok((LogVerdict::NoItem(number), Hint::Nothing)),
+        Err(NoLines::Memory) => Err(Memory),
     }
 }
 
@@ -106,9 +144,21 @@ pub fn judge_log<G: Gate>(
     requires { length text.now ≤ 67108864 }
     ensures { IfOk result (λ v. IsLogVerdict v (program_of script.now) text.now) }
 {
-    match lines_of(alloc, script, text) {
-        Ok(lines) => judge_lines(alloc, script, lines.as_slice(), gate),
-        Err(NoLines::AtLine(number)) => Ok(LogVerdict::NoItem(number)),
-        Err(NoLines::Memory) => Err(Memory),
-    }
+    let judged = judge_text(alloc, script, text, None, gate)?;
+    Ok(judged.0)
+}
+
+/// Judges the log of a run whose polls had this order.
+pub(crate) fn judge_in_order<G: Gate>(
+    alloc: Global,
+    script: &Script,
+    text: &[u8],
+    order: &[Tag],
+    gate: &G,
+) -> Result<LogVerdict, Memory>
+    requires { length text.now ≤ 67108864 }
+    ensures { IfOk result (λ v. IsLogVerdict v (program_of script.now) text.now) }
+{
+    let judged = judge_text(alloc, script, text, Some(order), gate)?;
+    Ok(judged.0)
 }

@@ -47,7 +47,8 @@ const NO_QUEUE: Queue = Queue {
     fulls: 0,
 };
 
-fn moved(number: u32, up: bool) -> u32 {
+/// One more, or one less.
+pub(crate) fn moved(number: u32, up: bool) -> u32 {
     if up {
         number.saturating_add(1)
     } else {

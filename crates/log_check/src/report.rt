@@ -4,6 +4,7 @@ ghost use Rattle.std.specs.Prelude.{◌≡◌, ◌≤◌, IfOk, length, true};
 ghost use Rattle.script_reader.specs.Scripts.{program_of};
 ghost use Rattle.log_check.specs.Verdicts.{IsReportVerdict};
 
+use crate::hints::Hint;
 use crate::verdict::ReportVerdict;
 use crate::way::{Way, way_of_report};
 use co_base::{Gate, Memory, Tag};
@@ -53,6 +54,25 @@ fn first_difference(text: &[u8], other: &[u8]) -> usize {
     number
 }
 
+/// Judges a report: looks for an order of whole polls in which a run writes it. Says what is known of the line where the search stops.
+pub(crate) fn judge_lines<G: Gate>(
+    alloc: Global,
+    script: &Script,
+    text: &[u8],
+    gate: &G,
+) -> Result<(ReportVerdict, Hint), Memory>
+    requires { length text.now ≤ 67108864 }
+    ensures { IfOk result (λ v. IsReportVerdict v.0 (program_of script.now) text.now) }
+{
+    match way_of_report(alloc, script, text, gate)? {
+        Way::Found(order) => {
+            let verdict = reported_again(alloc, script, text, order.as_slice(), gate)?;
+            Ok((verdict, Hint::Nothing))
+        }
+        Way::Stuck(number, hint) => Ok((ReportVerdict::NotFound(number), hint)),
+    }
+}
+
 /// Judges a report: looks for an order of whole polls in which a run writes it.
 pub fn judge_report<G: Gate>(
     alloc: Global,
@@ -63,8 +83,6 @@ pub fn judge_report<G: Gate>(
     requires { length text.now ≤ 67108864 }
     ensures { IfOk result (λ v. IsReportVerdict v (program_of script.now) text.now) }
 {
-    match way_of_report(alloc, script, text, gate)? {
-        Way::Found(order) => reported_again(alloc, script, text, order.as_slice(), gate),
-        Way::Stuck(number) => Ok(ReportVerdict::NotFound(number)),
-    }
+    let judged = judge_lines(alloc, script, text, gate)?;
+    Ok(judged.0)
 }

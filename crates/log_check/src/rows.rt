@@ -1,6 +1,7 @@
 //! How far the Jobs of a run are, as its lines say. Nothing is claimed of it.
 
 use crate::plan::Plan;
+use crate::queues::moved;
 use co_base::{Memory, Row};
 use history_text::Line;
 use script_reader::Script;
@@ -53,14 +54,6 @@ const NO_JOB: JobSeen = JobSeen {
     ended: false,
     needs_calm: 0,
 };
-
-fn moved(number: u32, up: bool) -> u32 {
-    if up {
-        number.saturating_add(1)
-    } else {
-        number.saturating_sub(1)
-    }
-}
 
 impl Rows {
     /// Before the first line.

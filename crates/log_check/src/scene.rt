@@ -2,6 +2,7 @@
 //! poll.
 
 use crate::plan::Plan;
+use crate::polled::written_by;
 use crate::queues::{Change, Queues};
 use crate::rows::{JobChange, Rows};
 use crate::sleepers::{Sleepers, Until};
@@ -56,14 +57,6 @@ impl View<'_> {
         let at = self.plan.line_of(tag, number)?;
         let line = self.lines.get(at)?;
         Some(line.item)
-    }
-
-    /// How many lines of a coroutine are written.
-    fn written_by(self, tag: Tag) -> usize {
-        match self.trial.book(tag as usize) {
-            Some(book) => book.items().len(),
-            None => 0,
-        }
     }
 
     fn is_resolved(self, w: WaitId) -> bool {
@@ -457,7 +450,7 @@ impl Scene {
     pub(crate) fn next_awake(&mut self, view: View) -> Option<Tag> {
         for _ in 0..self.sleepers.awake_count() {
             let tag = self.sleepers.next()?;
-            let number = view.written_by(tag);
+            let number = written_by(view.trial, tag);
             match self.rank(view, tag, number) {
                 Rank::Now => return Some(tag),
                 Rank::Never => {

@@ -35,3 +35,22 @@ pub enum ScriptVerdict {
     /// The script has this fault.
     Fault(ScriptFault),
 }
+
+/// The log of a run that was made.
+#[derive(Drop)]
+pub enum Logged {
+    /// This is its text, which stands, and the root's Job ended so, if it did.
+    Log(Vec<u8>, Option<End>),
+    /// It does not stand, or has more than 67,108,864 bytes. Nothing is claimed.
+    NotShown,
+    /// The script has this fault.
+    Fault(ScriptFault),
+}
+
+/// What is said of an input, and for a reader, without any promise, what is known of the line where that stops: a line of words, or
+/// nothing.
+#[derive(Drop)]
+pub struct Judged {
+    pub verdict: ScriptVerdict,
+    pub hint: Vec<u8>,
+}

@@ -4,7 +4,9 @@ ghost use Rattle.std.specs.Prelude.{OnOk};
 ghost use Rattle.script_reader.specs.Scripts.{program_of};
 ghost use Rattle.engine_one.specs.Trials.{TrialStands};
 
+use crate::hints::Hint;
 use crate::plan::Plan;
+use crate::polled::written_by;
 use crate::same::same_item;
 use crate::scene::{Rank, Scene, View};
 use co_base::{Gate, Memory, Tag};
@@ -59,17 +61,10 @@ pub(crate) struct Path {
     turned_back: bool,
     seen: HashSet<u64>,
     numbers: Vec<u64>,
-    /// The most lines that were written, and the number of a line that could not be written then.
+    /// The most lines that were written, and the number of a line that could not be written then, with what is known of it.
     most: usize,
     pub(crate) stuck: usize,
-}
-
-/// How many lines of a coroutine are written.
-fn written_by(trial: &Trial<Notes>, tag: Tag) -> usize {
-    match trial.book(tag as usize) {
-        Some(book) => book.items().len(),
-        None => 0,
-    }
+    pub(crate) hint: Hint,
 }
 
 fn item_of(trial: &Trial<Notes>, tag: Tag, number: usize) -> Option<Item> {
@@ -108,6 +103,7 @@ impl Path {
             numbers: Vec::new(alloc),
             most: 0,
             stuck: 1,
+            hint: Hint::Nothing,
         })
     }
 
@@ -209,8 +205,11 @@ impl Path {
                 None => false,
             };
             if !fit {
+                let written = item_of(trial, tag, number);
                 if wanted.ordered {
-                    self.reach(line, line.saturating_add(1));
+                    self.reach(line, line.saturating_add(1), Hint::Instead(tag, written));
+                } else {
+                    self.differs(wanted.plan.line_of(tag, number), tag, written);
                 }
                 return false;
             }
@@ -218,12 +217,30 @@ impl Path {
         true
     }
 
-    /// So many lines were written, and then this one could not be.
-    fn reach(&mut self, written: usize, stuck: usize) {
-        if written >= self.most {
+    /// So many lines were written, and then this one could not be. What was known first of a line stays.
+    fn reach(&mut self, written: usize, stuck: usize, hint: Hint) {
+        let again = written == self.most
+            && stuck == self.stuck
+            && !matches!(self.hint, Hint::Nothing);
+        if written >= self.most && !again {
             self.most = written;
             self.stuck = stuck;
+            self.hint = hint;
         }
+    }
+
+    /// A coroutine did this in place of its next line, or nothing; it is kept if that is the line that could not be written.
+    fn differs(&mut self, at: Option<usize>, tag: Tag, written: Option<Item>) {
+        if let Some(at) = at {
+            if at.saturating_add(1) == self.stuck && matches!(self.hint, Hint::Nothing) {
+                self.hint = Hint::Instead(tag, written);
+            }
+        }
+    }
+
+    /// A coroutine did nothing.
+    fn rested(&mut self, wanted: Wanted, trial: &Trial<Notes>, tag: Tag) {
+        self.differs(wanted.plan.line_of(tag, written_by(trial, tag)), tag, None);
     }
 
     /// The number of the first line that is not written.
@@ -267,7 +284,7 @@ impl Path {
         self.done = self.done.saturating_add(written.saturating_sub(before));
         if self.done > self.most {
             let stuck = self.first_left(wanted, trial);
-            self.reach(self.done, stuck);
+            self.reach(self.done, stuck, Hint::Nothing);
         }
         Ok(())
     }
@@ -383,6 +400,7 @@ pub(crate) fn step<G: Gate>(
     let before = written_by(trial, tag);
     path.polls = path.polls.saturating_add(1);
     let Some(polled) = trial.poll(wanted.script, gate, tag)? else {
+        path.rested(wanted, trial, tag);
         return Ok(true);
     };
     if !path.fits(wanted, trial, tag, before) {

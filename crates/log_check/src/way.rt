@@ -4,6 +4,7 @@ ghost use Rattle.std.specs.Prelude.{◌≤◌, length};
 ghost use Rattle.script_reader.specs.Scripts.{program_of};
 ghost use Rattle.engine_one.specs.Trials.{TrialStands};
 
+use crate::hints::Hint;
 use crate::names::lines_of;
 use crate::plan::Plan;
 use crate::walk::{Path, Wanted, step};
@@ -30,8 +31,8 @@ const ATTEMPTS: u32 = 8;
 pub(crate) enum Way {
     /// These coroutines are to be polled, in this order.
     Found(Vec<Tag>),
-    /// The number, from 1, of a line that could not be written.
-    Stuck(usize),
+    /// The number, from 1, of a line that could not be written, and what is known of it.
+    Stuck(usize, Hint),
 }
 
 /// Steps, until the lines are written, or no step is left, or there were too many.
@@ -64,7 +65,7 @@ fn way_of<G: Gate>(alloc: Global, wanted: Wanted, gate: &G) -> Result<Way, Memor
     if go(alloc, wanted, gate, &mut trial, &mut path)? {
         Ok(Way::Found(Vec::from_slice(alloc, trial.made())?))
     } else {
-        Ok(Way::Stuck(path.stuck))
+        Ok(Way::Stuck(path.stuck, path.hint))
     }
 }
 
@@ -148,14 +149,14 @@ pub(crate) fn way_of_report<G: Gate>(
 {
     let lines = match lines_of(alloc, script, books_part(text)) {
         Ok(lines) => lines,
-        Err(NoLines::AtLine(number)) => return Ok(Way::Stuck(number as usize)),
+        Err(NoLines::AtLine(number)) => return Ok(Way::Stuck(number as usize, Hint::Nothing)),
         Err(NoLines::Memory) => return Err(Memory),
     };
     if let Some(number) = first_of_cut_poll(lines.as_slice()) {
-        return Ok(Way::Stuck(number));
+        return Ok(Way::Stuck(number, Hint::OfSeveral));
     }
     let plan = Plan::new(alloc, script, lines.as_slice())?;
-    let mut stuck = 1;
+    let mut stuck = Way::Stuck(1, Hint::Nothing);
     for attempt in 0..ATTEMPTS {
         let wanted = Wanted {
             script,
@@ -166,8 +167,8 @@ pub(crate) fn way_of_report<G: Gate>(
         };
         match way_of(alloc, wanted, gate)? {
             Way::Found(order) => return Ok(Way::Found(order)),
-            Way::Stuck(number) => stuck = number,
+            other => stuck = other,
         }
     }
-    Ok(Way::Stuck(stuck))
+    Ok(stuck)
 }

@@ -5,5 +5,5 @@ use Rattle.judge_run.proofs.top.read_answer.Goals as goal
 
 pub returns-in-Ok : goal.returns-in-Ok
 returns-in-Ok g c =
-    made_of c.answer_of.result _ _ _ c.in-Ok.ensures.all c.in-Ok.ensures.drained
-    (subst (λ b. IsMadeOf b c.answer_of.result) c.as_slice.ensures.value c.answer_of.ensures)
+    made_of c.args.request c.answer_to.result _ _ _ c.in-Ok.ensures.all c.in-Ok.ensures.drained
+    (subst (λ b. IsMadeOf c.args.request b c.answer_to.result) c.as_slice.ensures.value c.answer_to.ensures)

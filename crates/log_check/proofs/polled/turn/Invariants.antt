@@ -1,6 +1,6 @@
 use Rattle.script_reader.specs.Scripts.{program_of}
 use Rattle.engine_one.specs.Trials.{TrialStands}
-use Rattle.run_logged.proofs.turn.Given as goal
+use Rattle.log_check.proofs.polled.turn.Given as goal
 
 abbrev pub invariant-tags : goal.invariant-tags
-invariant-tags l = TrialStands (program_of l.script) l.logged.trial
+invariant-tags g l = TrialStands (program_of l.script) l.polled.trial

@@ -1,7 +1,7 @@
 use Rattle.std.proofs.Common.{Ok, ap, sym, ◌∙◌}
 use Rattle.script_reader.specs.Scripts.{program_of}
 use Rattle.log_check.proofs.Judging.{of_lines}
-use Rattle.log_check.proofs.log.judge_log.Goals as goal
+use Rattle.log_check.proofs.log.judge_text.Goals as goal
 
 pub returns-in-Ok : goal.returns-in-Ok
 returns-in-Ok g c =
