@@ -6,6 +6,7 @@
 //! - `stream_tests`: a source and a sink of which a call fails. `cut_tests`: scripts that are cut off.
 //! - `print_tests`: a script that is read and printed again.
 //! - `worker_tests`: runs by several workers.
+//! - `explained_tests`: what is said of stuck and failing runs, whose scripts and reports stand in `explained_rows`.
 //! - `gate_tests`: the points of the gate that polls pass.
 //! - `text_tests`: whole texts read and written through the sources and sinks of `co_base`.
 //! - `reports`: reports of books that no script leaves.
@@ -24,6 +25,10 @@ mod cancel_rows;
 mod channel_rows;
 #[cfg(test)]
 mod cut_tests;
+#[cfg(test)]
+mod explained_rows;
+#[cfg(test)]
+mod explained_tests;
 #[cfg(test)]
 mod fault_rows;
 #[cfg(test)]

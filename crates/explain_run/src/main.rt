@@ -8,10 +8,6 @@
 
 mod outcome;
 mod process;
-#[cfg(test)]
-mod rows;
-#[cfg(test)]
-mod tests;
 mod top;
 mod words;
 

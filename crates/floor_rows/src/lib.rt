@@ -8,6 +8,7 @@
 //! - `on_passes`: offers and receives by four threads, each with a pass.
 //! - `selects_on_passes`: waits of several clauses, each call made by a pass.
 //! - `forest_rows`: calls on a floor of Jobs and on a forest, and what four threads come to on one forest.
+//! - `history_rows`: told histories of Jobs, and where each stops.
 //! - `seat_tests`: two callers with a seat each at a hub, and at a forest.
 //! - `berth_tests`: tasks that two seats take and leave.
 //! - `permit_rows`: calls of three coroutines on one permit, and who holds a permit while four threads ask for them.
@@ -22,6 +23,8 @@ mod berth_tests;
 mod crews;
 #[cfg(test)]
 mod forest_rows;
+#[cfg(test)]
+mod history_rows;
 mod known;
 #[cfg(test)]
 mod known_calls;

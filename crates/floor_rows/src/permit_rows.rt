@@ -1,4 +1,4 @@
-//! Calls of three coroutines on one permit, worked out by hand; and who holds a permit at once.
+//! Calls of three coroutines on one permit, after one of them filled the semaphore, worked out by hand; and who holds a permit at once.
 
 use co_base::{Memory, Tag, WaitId};
 use floor_tests::permit_calls::{Call, right_on_list, right_on_passes, tally_of_four};
@@ -14,7 +14,6 @@ const WAIT: WaitId = WaitId {
 
 /// A permit comes to one who gives up, and goes back.
 const GOES_BACK: &[(Tag, Call)] = &[
-    (0, Call::Fill),
     (1, Call::Acquire(Acquired::Held)),
     (2, Call::Acquire(Acquired::Waits(WAIT))),
     (1, Call::Release(Released::Done)),
@@ -25,7 +24,6 @@ const GOES_BACK: &[(Tag, Call)] = &[
 
 /// A permit comes to one who waits, and is taken up.
 const TAKEN_UP: &[(Tag, Call)] = &[
-    (0, Call::Fill),
     (1, Call::TryAcquire(TryAcquired::Held)),
     (2, Call::Acquire(Acquired::Waits(WAIT))),
     (1, Call::Release(Released::Done)),
@@ -36,7 +34,6 @@ const TAKEN_UP: &[(Tag, Call)] = &[
 
 /// Who holds none releases none, and the one that is free stays free.
 const NOT_HELD: &[(Tag, Call)] = &[
-    (0, Call::Fill),
     (1, Call::Release(Released::NotHeld)),
     (2, Call::Acquire(Acquired::Held)),
     (1, Call::TryAcquire(TryAcquired::Empty)),

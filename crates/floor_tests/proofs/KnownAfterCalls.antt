@@ -1,18 +1,15 @@
 -- What is known behind a call of the own, and behind one of another.
-use Rattle.std.specs.Prelude.{◌≡◌, ◌≢◌, ℕ, ◌<◌, ◌==◌, Bool, true, false, List, [], ◌∷◌, ◌++◌, length, Option, Some, None, refl, if◌then◌else◌}
-use Rattle.std.proofs.Common.{sym, ap, ◌∙◌, subst}
+use Rattle.std.specs.Prelude.{◌≡◌, ◌≢◌, ℕ, ◌==◌, Bool, true, false, List, [], ◌∷◌, ◌++◌, Option, Some, None, refl, if◌then◌else◌}
+use Rattle.std.proofs.Common.{sym, ap, ◌∙◌}
 use Rattle.std.proofs.lemmas.Bool.{eqb-true}
 use Rattle.co_base.specs.declared.names.WaitId.{WaitId}
 use Rattle.channel_model.specs.declared.acts.Act.{Act}
-use Rattle.channel_model.specs.Channels.{Shape, kind_at}
 use Rattle.channel_model.specs.Answers.{IsUnsettledOf}
 use Rattle.channel_model.specs.Histories.{acts_of, Legal}
-use Rattle.channel_model.specs.Floors.{Floor, SameSetting, entries_by}
-use Rattle.channel_model.specs.Laws.{how_many}
+use Rattle.channel_model.specs.Floors.{Floor, entries_by}
 use Rattle.channel_model.proofs.Histories.{acts_of-append}
 use Rattle.channel_model.proofs.Others.{others_keep, unsettled_stays}
 use Rattle.channel_model.proofs.Spans.{nothing_more}
-use Rattle.permits.specs.Parts.{is_on, MayFill}
 use Rattle.permits.proofs.UsesGo.{uses_kept}
 use Rattle.floor_tests.specs.declared.permit_calls.known_calls.Known.{Known}
 use Rattle.floor_tests.specs.KnownPermits.{Knows, IsOwnWait, Adds}
@@ -34,18 +31,6 @@ same_acts k who a d ne alone h =
     ap (acts_of k) (h.added.alone alone) ∙ acts_of-append k a.seen (entries_by who h.acts)
     ∙ ap (λ l. acts_of k a.seen ++ l) (none_of_other k who h.acts ne) ∙ nothing_more (acts_of k a.seen)
 
-fill_kept : (c n k : ℕ) (a d : Floor) → SameSetting a d → acts_of k d.seen ≡ acts_of k a.seen → MayFill c n k a → MayFill c n k d
-fill_kept c n k a d same e m = record {
-  can = record {
-    caller = ap (λ (f : ℕ → Bool). f k) same.callers ∙ m.can.caller;
-    channel = subst (λ (s : Shape). c < length s) (sym same.shape) m.can.channel;
-  };
-  kind = ap (λ (s : Shape). kind_at s c) same.shape ∙ m.kind;
-  some = m.some;
-  few = m.few;
-  none = ap (how_many (is_on c)) e ∙ m.none;
-}
-
 wait_kept : (c k who : ℕ) (w : Option WaitId) (a d : Floor) → Legal d.shape d.seen → Adds who a d → acts_of k d.seen ≡ acts_of k a.seen
     → IsOwnWait c k w a → IsOwnWait c k w d
 wait_kept c k who None a d l h e x = tt
@@ -61,6 +46,5 @@ others_know c n k who known a d l ne alone h x =
     let e = same_acts k who a d ne alone h in
     record {
       uses = uses_kept c n k known.held a d h.added.same e x.uses;
-      fresh = λ f. fill_kept c n k a d h.added.same e (x.fresh f);
       wait = wait_kept c k who known.wait a d l h e x.wait;
     }

@@ -6,12 +6,12 @@ use Rattle.co_base.specs.declared.names.Memory.{Memory}
 use Rattle.channel_model.specs.declared.acts.Kind.TheVariants.{Unlimited}
 use Rattle.channel_model.specs.declared.acts.Entry.{Entry}
 use Rattle.channel_model.specs.Channels.{Shape, kind_at}
-use Rattle.channel_model.specs.Histories.{acts_of}
+use Rattle.channel_model.specs.Histories.{acts_of, Legal}
 use Rattle.channel_model.specs.Floors.{Floor}
 use Rattle.channel_model.specs.Laws.{how_many}
 use Rattle.one_thread_floor.specs.declared.list_floor.ListFloor.{ListFloor}
 use Rattle.one_thread_floor.specs.ListFloors.{floor_of}
-use Rattle.permits.specs.Parts.{is_on, MayFill}
+use Rattle.permits.specs.Parts.{is_on, UsesPermits, MayFill}
 use Rattle.permits.proofs.FillsGo.{uses_fresh}
 use Rattle.worded.specs.Views.{has_tag}
 use Rattle.cell_words.specs.declared.hub.Hub.{Hub}
@@ -20,9 +20,9 @@ use Rattle.cell_words.specs.Hubs.{shape_of, seen_by}
 use Rattle.cell_calls.specs.HubFloors.{hub_floor}
 use Rattle.floor_tests.specs.declared.permit_calls.known_calls.Known.{Known}
 use Rattle.floor_tests.specs.declared.permit_calls.three_callers.Three.{Three}
-use Rattle.floor_tests.specs.declared.permit_calls.three_callers.Passes.{Passes}
-use Rattle.floor_tests.specs.KnownPermits.{Knows, fresh}
-use Rattle.floor_tests.specs.AllThree.{AllKnow, AreFresh, EachKnows}
+use Rattle.floor_tests.specs.KnownPermits.{Knows, Adds, used}
+use Rattle.floor_tests.specs.AllThree.{AllKnow}
+use Rattle.floor_tests.proofs.KnownAfterCalls.{others_know}
 
 -- the first channel keeps all
 shape_kind : (places : ℕ) (s : Shape) → s ≡ (Unlimited, places) ∷ [] → (kind_at s 0 ≡ Unlimited) × (0 < length s)
@@ -49,8 +49,11 @@ pub nothing_made : (who : ℕ) (es : List Entry) → acts_of who es ≡ [] → a
 unfolding acts_of
 nothing_made who es e = e
 
-pub knows_fresh : (c n who : ℕ) (f : Floor) → MayFill c n who f → Knows c n who fresh f
-knows_fresh c n who f m = record { uses = uses_fresh c n who f m; fresh = λ e. m; wait = tt }
+knows_fresh : (c n who : ℕ) (f : Floor) → MayFill c n who f → Knows c n who (used 0) f
+knows_fresh c n who f m = record { uses = uses_fresh c n who f m; wait = tt }
+
+pub may_first : (c n who : ℕ) (f : Floor) → c ≡ 0 → MayFill 0 n who f → MayFill c n who f
+may_first c n who f first m = subst (λ (d : ℕ). MayFill d n who f) (sym first) m
 
 -- ---- on lists
 
@@ -60,11 +63,15 @@ pub list_fresh : (x : Result ListFloor Memory) → IfOk x (λ (f : ListFloor). (
 list_fresh (Ok f) s n c = λ t. fresh_there 8 1 t (floor_of f) s (omega arith) (omega arith) (c t) (ap (acts_of t) n)
 list_fresh (Err m) s n c = s
 
-pub all_know_fresh : (k : Three) (f : Floor) → k.a ≡ fresh → k.b ≡ fresh → k.c ≡ fresh → ((t : ℕ) → MayFill 0 1 t f) → AllKnow k f
-all_know_fresh k f a b c m = record {
-  a = subst (λ (x : Known). Knows 0 1 0 x f) (sym a) (knows_fresh 0 1 0 f (m 0));
-  b = subst (λ (x : Known). Knows 0 1 1 x f) (sym b) (knows_fresh 0 1 1 f (m 1));
-  c = subst (λ (x : Known). Knows 0 1 2 x f) (sym c) (knows_fresh 0 1 2 f (m 2));
+-- tag 0 has filled, and nobody else has called
+pub all_filled : (k : Three) (a d : Floor) → Legal d.shape d.seen → a.alone ≡ true → ((t : ℕ) → MayFill 0 1 t a) → Adds 0 a d
+    → UsesPermits 0 1 0 0 d → k.a ≡ used 0 → k.b ≡ used 0 → k.c ≡ used 0 → AllKnow k d
+all_filled k a d l alone m adds uses of_a of_b of_c = record {
+  a = subst (λ (x : Known). Knows 0 1 0 x d) (sym of_a) (record { uses = uses; wait = tt });
+  b = subst (λ (x : Known). Knows 0 1 1 x d) (sym of_b)
+      (others_know 0 1 1 0 (used 0) a d l (λ q. omega (arith, q)) alone adds (knows_fresh 0 1 1 a (m 1)));
+  c = subst (λ (x : Known). Knows 0 1 2 x d) (sym of_c)
+      (others_know 0 1 2 0 (used 0) a d l (λ q. omega (arith, q)) alone adds (knows_fresh 0 1 2 a (m 2)));
 }
 
 -- ---- over words
@@ -72,14 +79,3 @@ all_know_fresh k f a b c m = record {
 pub pass_fresh : (places n who : ℕ) (hub : Hub) (pass : Pass) → shape_of hub ≡ (Unlimited, places) ∷ [] → 1 ≤ n → n ≤ 65535
     → has_tag who (seen_by pass).tags ≡ true → acts_of who (seen_by pass).seen ≡ acts_of who [] → MayFill 0 n who (hub_floor hub pass)
 pass_fresh places n who hub pass s some few tag none = fresh_there places n who (hub_floor hub pass) s some few tag none
-
-pub each_knows_fresh : (hub : Hub) (k : Three) (p : Passes) → k.a ≡ fresh → k.b ≡ fresh → k.c ≡ fresh → AreFresh hub p → EachKnows hub k p
-each_knows_fresh hub k p a b c m = record {
-  a = subst (λ (x : Known). Knows 0 1 0 x (hub_floor hub p.a)) (sym a) (knows_fresh 0 1 0 (hub_floor hub p.a) m.a);
-  b = subst (λ (x : Known). Knows 0 1 1 x (hub_floor hub p.b)) (sym b) (knows_fresh 0 1 1 (hub_floor hub p.b) m.b);
-  c = subst (λ (x : Known). Knows 0 1 2 x (hub_floor hub p.c)) (sym c) (knows_fresh 0 1 2 (hub_floor hub p.c) m.c);
-}
-
-pub starts : (c n : ℕ) (k : Known) (f : Floor) → c ≡ 0 → k ≡ fresh → MayFill 0 n 0 f → Knows c n 0 k f
-starts c n k f first is m = subst (λ (d : ℕ). Knows d n 0 k f) (sym first)
-    (subst (λ (x : Known). Knows 0 n 0 x f) (sym is) (knows_fresh 0 n 0 f m))

@@ -1,5 +1,5 @@
 -- What a coroutine knows of its use of the permits of a channel, before and after a call.
-use Rattle.std.specs.Prelude.{◌≡◌, ◌≤◌, ℕ, true, false, List, Option, Some, None, Result, Ok, Err}
+use Rattle.std.specs.Prelude.{◌≡◌, ◌≤◌, ℕ, List, Option, Some, None, Result, Ok, Err}
 use Rattle.co_base.specs.declared.names.WaitId.{WaitId}
 use Rattle.co_base.specs.declared.names.Memory.{Memory}
 use Rattle.channel_model.specs.declared.acts.Act.{Act}
@@ -11,7 +11,7 @@ use Rattle.cell_words.specs.Hubs.{IsOf}
 use Rattle.cell_calls.specs.HubFloors.{hub_floor}
 use Rattle.permits.specs.declared.permits.Acquired.{Acquired}
 use Rattle.permits.specs.declared.permits.Acquired.TheVariants as acquired
-use Rattle.permits.specs.Parts.{UsesPermits, MayFill}
+use Rattle.permits.specs.Parts.{UsesPermits}
 use Rattle.floor_tests.specs.declared.permit_calls.known_calls.Known.{Known}
 use Rattle.floor_tests.specs.declared.permit_calls.at_once.Four.{Four}
 
@@ -24,23 +24,16 @@ abbrev pub IsOwnWait : ℕ → ℕ → Option WaitId → Floor → Type 0
 IsOwnWait c who None f = Unit {0}
 IsOwnWait c who (Some w) f = (w.channel ≡ c) × HoldsWait who w f
 
--- who uses the n permits, and holds so many of them; it has not called yet; its wait did not end
+-- who uses the n permits, and holds so many of them; its wait did not end
 pub record Knows (c n who : ℕ) (k : Known) (f : Floor) : Type 0 where
   pub uses : UsesPermits c n who k.held f
-  pub fresh : k.fresh ≡ true → MayFill c n who f
   pub wait : IsOwnWait c who k.wait f
 
--- what is known after a call that answered as it was to
-abbrev pub KnowsThen : ℕ → ℕ → ℕ → Result (Option Known) Memory → Floor → Type 0
-KnowsThen c n who (Ok (Some k)) f = Knows c n who k f
-KnowsThen c n who (Ok None) f = Unit {0}
-KnowsThen c n who (Err m) f = Unit {0}
-
--- a wait was taken up, and so many permits are held then; or it did not end
-abbrev pub EndsOrWaits : ℕ → ℕ → ℕ → ℕ → WaitId → Result (Option (Acquired × ℕ)) Memory → Floor → Type 0
-EndsOrWaits c n who held w (Ok (Some r)) f = UsesPermits c n who r.1 f
-EndsOrWaits c n who held w (Ok None) f = UsesPermits c n who held f × HoldsWait who w f
-EndsOrWaits c n who held w (Err m) f = Unit {0}
+-- where no wait was taken up, this one did not end
+abbrev pub WaitsStill : ℕ → WaitId → Result (Option Acquired) Memory → Floor → Type 0
+WaitsStill who w (Ok (Some r)) f = Unit {0}
+WaitsStill who w (Ok None) f = HoldsWait who w f
+WaitsStill who w (Err m) f = Unit {0}
 
 -- who added some acts
 pub record Adds (who : ℕ) (old new : Floor) : Type 0 where
@@ -49,16 +42,12 @@ pub record Adds (who : ℕ) (old new : Floor) : Type 0 where
 
 -- so many are held, and no wait is known
 abbrev pub used : ℕ → Known
-used held = record { fresh = false; held = held; wait = None }
+used held = record { held = held; wait = None }
 
 -- the call began this wait, or none
 abbrev pub after_acquire : ℕ → Acquired → Known
-after_acquire held (acquired.Waits w) = record { fresh = false; held = held; wait = Some w }
+after_acquire held (acquired.Waits w) = record { held = held; wait = Some w }
 after_acquire held other = used held
-
--- nothing was called yet
-abbrev pub fresh : Known
-fresh = record { fresh = true; held = 0; wait = None }
 
 -- ---- four with a pass each, with the tags 1 to 4, on the permits of the first channel
 

@@ -22,11 +22,6 @@ pub record Walked (shape : Shape) (entries : List JobEntry) (number : ℕ) (rest
   pub legal : Legal shape before
   pub tree : IsTree (replay before) x
 
--- the number of the next entry is one above that of the entries before it
-pub few_entries : (shape : Shape) (entries : List JobEntry) (n : ℕ) (rest : List JobEntry) (x : JobReplay) → Walked shape entries n rest x
-    → n + length rest ≡ length entries + 1
-few_entries shape entries n rest x w = omega (arith, w.numbered, ap length w.split, length-append w.before rest)
-
 pub begun : (shape : Shape) (entries : List JobEntry) (x : JobReplay) → shape_of x.size ≡ shape → IsTree start x
     → Walked shape entries 1 entries x
 unfolding LegalFrom replay_from

@@ -7,14 +7,12 @@
 //! - `tests`: which acts may come now, by the rows.
 //! - `changes`: what an act leaves of the rows.
 //! - `replay`: the tree; `calls`: its calls.
-//! - `history`: whether a history of Jobs is one that the rules allow; `history_rows`: histories for its test.
+//! - `history`: whether a history of Jobs is one that the rules allow.
 #![tactic(auto)]
 
 mod calls;
 mod changes;
 mod history;
-#[cfg(test)]
-mod history_rows;
 mod job_row;
 mod replay;
 mod rows;

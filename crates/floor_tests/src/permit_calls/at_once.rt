@@ -4,10 +4,10 @@ ghost use Rattle.std.specs.Prelude.{◌≡◌, ◌<◌, ◌+◌, ℕ, IfOk};
 ghost use Rattle.cell_words.specs.Hubs.{IsOf};
 ghost use Rattle.cell_calls.specs.HubFloors.{hub_floor};
 ghost use Rattle.permits.specs.Parts.{UsesPermits, MayFill};
-ghost use Rattle.floor_tests.specs.KnownPermits.{Knows, FourUse, IsNumber};
+ghost use Rattle.floor_tests.specs.KnownPermits.{FourUse, IsNumber};
 
 use crate::permit_calls::holds::{Tally, hold_on};
-use crate::permit_calls::known_calls::{Call, Known, call_on_pass, fresh};
+use crate::permit_calls::known_calls::{Call, call_on_pass, fill_on_pass, used};
 use cell_calls::Desk;
 use cell_words::{Hub, Pass};
 use channel_model::Kind;
@@ -140,30 +140,20 @@ fn by_four<R: Threads + Wait + Sync>(
     )
 }
 
-/// Whether so many permits are free, and no more.
-fn are_free(
-    hub: &Hub,
-    pass: &mut Pass,
-    alloc: Global,
-    p: &Permits,
-    known: Known,
-) -> Result<bool, Memory>
+/// Whether all permits are free, and no more.
+fn are_free(hub: &Hub, pass: &mut Pass, alloc: Global, p: &Permits) -> Result<bool, Memory>
     requires of { IsOf hub.now pass.old }
-    requires knows { Knows p.now.c p.now.n 0 known (hub_floor hub.now pass.old) }
+    requires uses { UsesPermits p.now.c p.now.n 0 0 (hub_floor hub.now pass.old) }
 {
-    let mut known = known;
+    let mut known = used(0);
+    let held = Call::TryAcquire(TryAcquired::Held);
     for _ in 0..p.n {
-        let held = Call::TryAcquire(TryAcquired::Held);
-        let Some(next) = call_on_pass(hub, pass, alloc, p, 0, known, held)? else {
+        if !call_on_pass(hub, pass, alloc, p, 0, &mut known, held)? {
             return Ok(false);
-        };
-        known = next;
+        }
     }
     let empty = Call::TryAcquire(TryAcquired::Empty);
-    match call_on_pass(hub, pass, alloc, p, 0, known, empty)? {
-        Some(_) => Ok(true),
-        None => Ok(false),
-    }
+    call_on_pass(hub, pass, alloc, p, 0, &mut known, empty)
 }
 
 /// So many acquires by each of four coroutines, by 1, 2 or 4 threads: what they came to, and whether all permits are free in the end.
@@ -180,14 +170,12 @@ pub fn tally_of_four<R: Threads + Wait + Sync + AllocGlobal>(
 {
     let alloc = rt.alloc();
     let (hub, mut main, four) = new_four(alloc)?;
-    let Some(known) = call_on_pass(&hub, &mut main, alloc, p, 0, fresh(), Call::Fill)? else {
-        return Err(Memory);
-    };
+    fill_on_pass(&hub, &mut main, alloc, p, 0)?;
     let number = AtomicU64::new(0);
     let holding = if counted { Some(&number) } else { None };
     let plan = Plan { times, threads };
     let ((a, b), (c, d)) = by_four(rt, &hub, four, alloc, p, plan, holding);
     let tally = a?.and(b?).and(c?).and(d?);
-    let free = are_free(&hub, &mut main, alloc, p, known)?;
+    let free = are_free(&hub, &mut main, alloc, p)?;
     Ok((tally, free))
 }

@@ -1,6 +1,6 @@
 //! To acquire and to release a permit, while a shared number counts who holds one.
 
-ghost use Rattle.std.specs.Prelude.{◌≡◌, OnOk};
+ghost use Rattle.std.specs.Prelude.{◌≡◌};
 ghost use Rattle.channel_calls.specs.Calls.{SameCaller};
 ghost use Rattle.permits.specs.Parts.{UsesPermits};
 ghost use Rattle.floor_tests.specs.KnownPermits.{HoldsWait};
@@ -161,14 +161,11 @@ fn wait_a_while<F: ChannelFloor, B: NoteBook, W: Wakes>(
     requires here { w.channel ≡ p.now.c }
     requires holds { HoldsWait x.old.who w (F.view x.old.floor.now) }
     ensures same { SameCaller F.anchor x.old x.new }
-    ensures uses { OnOk result (UsesPermits p.now.c p.now.n x.old.who held.new (F.view x.new.floor.now)) }
+    ensures uses { UsesPermits p.now.c p.now.n x.old.who held.new (F.view x.new.floor.now) }
 {
     for _ in 0..LOOKS {
-        match take_up_if_resolved(x, p, *held, w) {
-            Ok(Some((answer, now))) => {
-                *held = now;
-                return after_wait(x, p, held, answer, holding);
-            }
+        match take_up_if_resolved(x, p, held, w) {
+            Ok(Some(answer)) => return after_wait(x, p, held, answer, holding),
             Ok(None) => {}
             Err(memory) => return Err(memory),
         }
@@ -185,7 +182,7 @@ fn hold_once<F: ChannelFloor, B: NoteBook, W: Wakes>(
 ) -> Result<Once, Memory>
     requires uses { UsesPermits p.now.c p.now.n x.old.who held.old (F.view x.old.floor.now) }
     ensures same { SameCaller F.anchor x.old x.new }
-    ensures uses { OnOk result (UsesPermits p.now.c p.now.n x.old.who held.new (F.view x.new.floor.now)) }
+    ensures uses { UsesPermits p.now.c p.now.n x.old.who held.new (F.view x.new.floor.now) }
 {
     match acquire(x, p, held) {
         Ok(Acquired::Held) => count_and_release(x, p, held, holding),

@@ -2,11 +2,15 @@
 
 ghost use Rattle.std.specs.Prelude.{◌≡◌, ℕ, true, IfOk};
 ghost use Rattle.one_thread_floor.specs.ListFloors.{floor_of};
-ghost use Rattle.permits.specs.Parts.{MayFill};
-ghost use Rattle.floor_tests.specs.KnownPermits.{fresh};
-ghost use Rattle.floor_tests.specs.AllThree.{AllKnow, AllKnowThen, AreOf, EachKnows, EachKnowsThen, AreFresh};
+ghost use Rattle.permits.specs.Parts.{UsesPermits, MayFill};
+ghost use Rattle.floor_tests.specs.KnownPermits.{used};
+ghost use Rattle.cell_words.specs.Hubs.{IsOf};
+ghost use Rattle.cell_calls.specs.HubFloors.{hub_floor};
+ghost use Rattle.floor_tests.specs.AllThree.{AllKnow, AreOf, AreFresh, IsHolder};
 
-use crate::permit_calls::known_calls::{Call, Known, call_on, call_on_pass, fresh};
+use crate::permit_calls::known_calls::{
+    Call, Known, call_on, call_on_pass, fill_on, fill_on_pass, used,
+};
 use cell_words::{Hub, Pass};
 use channel_model::{ChannelFloor, Kind};
 use co_base::{Memory, Tag};
@@ -25,63 +29,91 @@ struct Three {
     c: Known,
 }
 
-/// None has called yet.
-fn all_fresh() -> Three
-    ensures a { result.a ≡ fresh }
-    ensures b { result.b ≡ fresh }
-    ensures c { result.c ≡ fresh }
+/// None holds a permit.
+fn none_held() -> Three
+    ensures a { result.a ≡ used 0 }
+    ensures b { result.b ≡ used 0 }
+    ensures c { result.c ≡ used 0 }
 {
     Three {
-        a: fresh(),
-        b: fresh(),
-        c: fresh(),
+        a: used(0),
+        b: used(0),
+        c: used(0),
     }
 }
 
 // ---- on one floor
 
-/// What is known after the call, if it answers so.
+/// Tag 0 fills the semaphore, on which none has called yet.
+fn fill_first<F: ChannelFloor>(floor: &mut F, alloc: Global) -> Result<Three, Memory>
+    requires alone { (F.view floor.old).alone ≡ true }
+    requires fresh { (t : ℕ) → MayFill 0 1 t (F.view floor.old) }
+    ensures knows { IfOk result (λ k. AllKnow k (F.view floor.new)) }
+{
+    match fill_on(floor, alloc, &MUTEX, 0) {
+        Ok(()) => Ok(none_held()),
+        Err(memory) => Err(memory),
+    }
+}
+
+/// Whether the call of tag 0 answers so, and what all know then.
+fn call_a<F: ChannelFloor>(
+    floor: &mut F,
+    alloc: Global,
+    known: &mut Three,
+    call: Call,
+) -> Result<bool, Memory>
+    requires alone { (F.view floor.old).alone ≡ true }
+    requires knows { AllKnow known.old (F.view floor.old) }
+    ensures knows { AllKnow known.new (F.view floor.new) }
+{
+    call_on(floor, alloc, &MUTEX, 0, &mut known.a, call)
+}
+
+/// The same of tag 1.
+fn call_b<F: ChannelFloor>(
+    floor: &mut F,
+    alloc: Global,
+    known: &mut Three,
+    call: Call,
+) -> Result<bool, Memory>
+    requires alone { (F.view floor.old).alone ≡ true }
+    requires knows { AllKnow known.old (F.view floor.old) }
+    ensures knows { AllKnow known.new (F.view floor.new) }
+{
+    call_on(floor, alloc, &MUTEX, 1, &mut known.b, call)
+}
+
+/// The same of tag 2.
+fn call_c<F: ChannelFloor>(
+    floor: &mut F,
+    alloc: Global,
+    known: &mut Three,
+    call: Call,
+) -> Result<bool, Memory>
+    requires alone { (F.view floor.old).alone ≡ true }
+    requires knows { AllKnow known.old (F.view floor.old) }
+    ensures knows { AllKnow known.new (F.view floor.new) }
+{
+    call_on(floor, alloc, &MUTEX, 2, &mut known.c, call)
+}
+
+/// The same of the one with this tag; tag 2 for each above 1.
 fn call_of_three<F: ChannelFloor>(
     floor: &mut F,
     alloc: Global,
-    known: Three,
+    known: &mut Three,
     who: Tag,
     call: Call,
-) -> Result<Option<Three>, Memory>
+) -> Result<bool, Memory>
     requires alone { (F.view floor.old).alone ≡ true }
-    requires knows { AllKnow known (F.view floor.old) }
-    ensures alone { (F.view floor.new).alone ≡ true }
-    ensures knows { AllKnowThen result (F.view floor.new) }
+    requires knows { AllKnow known.old (F.view floor.old) }
+    ensures knows { AllKnow known.new (F.view floor.new) }
 {
     match who {
-        0 => match call_on(floor, alloc, &MUTEX, 0, known.a, call) {
-            Ok(Some(a)) => Ok(Some(Three {
-                a,
-                b: known.b,
-                c: known.c,
-            })),
-            Ok(None) => Ok(None),
-            Err(memory) => Err(memory),
-        },
-        1 => match call_on(floor, alloc, &MUTEX, 1, known.b, call) {
-            Ok(Some(b)) => Ok(Some(Three {
-                a: known.a,
-                b,
-                c: known.c,
-            })),
-            Ok(None) => Ok(None),
-            Err(memory) => Err(memory),
-        },
-        2 => match call_on(floor, alloc, &MUTEX, 2, known.c, call) {
-            Ok(Some(c)) => Ok(Some(Three {
-                a: known.a,
-                b: known.b,
-                c,
-            })),
-            Ok(None) => Ok(None),
-            Err(memory) => Err(memory),
-        },
-        _ => Ok(None),
+        0 => call_a(floor, alloc, known, call),
+        1 => call_b(floor, alloc, known, call),
+        _ => call_c(floor, alloc, known, call),
     }
 }
 
@@ -93,30 +125,37 @@ fn new_floor(alloc: Global) -> Result<ListFloor, Memory>
     ListFloor::new(alloc, &[(Kind::Unlimited, 8)])
 }
 
+/// Tag 0 fills the semaphore on lists.
+fn fill_list(floor: &mut ListFloor, alloc: Global) -> Result<Three, Memory>
+    requires fresh { (t : ℕ) → MayFill 0 1 t (floor_of floor.old) }
+    ensures knows { IfOk result (λ k. AllKnow k (floor_of floor.new)) }
+{
+    fill_first(floor, alloc)
+}
+
 /// The call on lists.
 fn call_on_list(
     floor: &mut ListFloor,
     alloc: Global,
-    known: Three,
+    known: &mut Three,
     who: Tag,
     call: Call,
-) -> Result<Option<Three>, Memory>
-    requires knows { AllKnow known (floor_of floor.old) }
-    ensures knows { AllKnowThen result (floor_of floor.new) }
+) -> Result<bool, Memory>
+    requires knows { AllKnow known.old (floor_of floor.old) }
+    ensures knows { AllKnow known.new (floor_of floor.new) }
 {
     call_of_three(floor, alloc, known, who, call)
 }
 
-/// How many of the calls answer so, from the first on.
+/// How many of the calls answer so, from the first on, after tag 0 filled the semaphore.
 pub fn right_on_list(alloc: Global, calls: &[(Tag, Call)]) -> Result<usize, Memory> {
     let mut floor = new_floor(alloc)?;
-    let mut known = all_fresh();
+    let mut known = fill_list(&mut floor, alloc)?;
     for i in 0..calls.len() {
         let (who, call) = calls[i];
-        let Some(next) = call_on_list(&mut floor, alloc, known, who, call)? else {
+        if !call_on_list(&mut floor, alloc, &mut known, who, call)? {
             return Ok(i);
-        };
-        known = next;
+        }
     }
     Ok(calls.len())
 }
@@ -131,49 +170,67 @@ struct Passes {
     c: Pass,
 }
 
-/// The same by the pass of the coroutine with this tag.
-fn call_of_passes(
+/// A coroutine with its pass, and what it knows.
+#[derive(Drop)]
+struct Holder {
+    pass: Pass,
+    known: Known,
+}
+
+fn holder_of(hub: &Hub, pass: Pass, who: Tag) -> Holder
+    requires of { IsOf hub.now pass }
+    requires uses { UsesPermits 0 1 who 0 (hub_floor hub.now pass) }
+    ensures is { IsHolder hub.now who result.pass result.known }
+{
+    Holder {
+        pass,
+        known: used(0),
+    }
+}
+
+/// The call of one of them.
+fn call_by(
     hub: &Hub,
-    passes: &mut Passes,
+    holder: &mut Holder,
     alloc: Global,
-    known: Three,
     who: Tag,
     call: Call,
-) -> Result<Option<Three>, Memory>
-    requires of { AreOf hub.now passes.old }
-    requires knows { EachKnows hub.now known passes.old }
-    ensures of { AreOf hub.now passes.new }
-    ensures knows { EachKnowsThen hub.now result passes.new }
+) -> Result<bool, Memory>
+    requires is { IsHolder hub.now who holder.old.pass holder.old.known }
+    ensures is { IsHolder hub.now who holder.new.pass holder.new.known }
+{
+    call_on_pass(
+        hub,
+        &mut holder.pass,
+        alloc,
+        &MUTEX,
+        who,
+        &mut holder.known,
+        call,
+    )
+}
+
+/// The call of the one with this tag.
+fn call_of_holders(
+    hub: &Hub,
+    a: &mut Holder,
+    b: &mut Holder,
+    c: &mut Holder,
+    alloc: Global,
+    who: Tag,
+    call: Call,
+) -> Result<bool, Memory>
+    requires a { IsHolder hub.now 0 a.old.pass a.old.known }
+    requires b { IsHolder hub.now 1 b.old.pass b.old.known }
+    requires c { IsHolder hub.now 2 c.old.pass c.old.known }
+    ensures a { IsHolder hub.now 0 a.new.pass a.new.known }
+    ensures b { IsHolder hub.now 1 b.new.pass b.new.known }
+    ensures c { IsHolder hub.now 2 c.new.pass c.new.known }
 {
     match who {
-        0 => match call_on_pass(hub, &mut passes.a, alloc, &MUTEX, 0, known.a, call) {
-            Ok(Some(a)) => Ok(Some(Three {
-                a,
-                b: known.b,
-                c: known.c,
-            })),
-            Ok(None) => Ok(None),
-            Err(memory) => Err(memory),
-        },
-        1 => match call_on_pass(hub, &mut passes.b, alloc, &MUTEX, 1, known.b, call) {
-            Ok(Some(b)) => Ok(Some(Three {
-                a: known.a,
-                b,
-                c: known.c,
-            })),
-            Ok(None) => Ok(None),
-            Err(memory) => Err(memory),
-        },
-        2 => match call_on_pass(hub, &mut passes.c, alloc, &MUTEX, 2, known.c, call) {
-            Ok(Some(c)) => Ok(Some(Three {
-                a: known.a,
-                b: known.b,
-                c,
-            })),
-            Ok(None) => Ok(None),
-            Err(memory) => Err(memory),
-        },
-        _ => Ok(None),
+        0 => call_by(hub, a, alloc, 0, call),
+        1 => call_by(hub, b, alloc, 1, call),
+        _ => call_by(hub, c, alloc, 2, call),
     }
 }
 
@@ -188,16 +245,35 @@ fn new_passes(alloc: Global) -> Result<(Hub, Passes), Memory>
     Ok((hub, Passes { a, b, c }))
 }
 
-/// How many of the calls answer so, from the first on.
-pub fn right_on_passes(alloc: Global, calls: &[(Tag, Call)]) -> Result<usize, Memory> {
-    let (hub, mut passes) = new_passes(alloc)?;
-    let mut known = all_fresh();
+/// How many of the calls of the three answer so, from the first on.
+fn right_of_holders(
+    hub: &Hub,
+    a: &mut Holder,
+    b: &mut Holder,
+    c: &mut Holder,
+    alloc: Global,
+    calls: &[(Tag, Call)],
+) -> Result<usize, Memory>
+    requires a { IsHolder hub.now 0 a.old.pass a.old.known }
+    requires b { IsHolder hub.now 1 b.old.pass b.old.known }
+    requires c { IsHolder hub.now 2 c.old.pass c.old.known }
+{
     for i in 0..calls.len() {
         let (who, call) = calls[i];
-        let Some(next) = call_of_passes(&hub, &mut passes, alloc, known, who, call)? else {
+        if !call_of_holders(hub, a, b, c, alloc, who, call)? {
             return Ok(i);
-        };
-        known = next;
+        }
     }
     Ok(calls.len())
+}
+
+/// How many of the calls answer so, from the first on, after tag 0 filled the semaphore.
+pub fn right_on_passes(alloc: Global, calls: &[(Tag, Call)]) -> Result<usize, Memory> {
+    let (hub, passes) = new_passes(alloc)?;
+    let Passes { mut a, b, c } = passes;
+    fill_on_pass(&hub, &mut a, alloc, &MUTEX, 0)?;
+    let mut a = holder_of(&hub, a, 0);
+    let mut b = holder_of(&hub, b, 1);
+    let mut c = holder_of(&hub, c, 2);
+    right_of_holders(&hub, &mut a, &mut b, &mut c, alloc, calls)
 }

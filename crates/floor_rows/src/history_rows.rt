@@ -1,8 +1,8 @@
 //! Histories of Jobs, and what is said of each, worked out by hand: of the root and one coroutine.
 
-use crate::history::{JobVerdict, check_jobs};
 use co_base::Memory;
 use job_model::{Cause, End, JobAct, JobEntry, JobKind, Reason};
+use job_replay::{JobVerdict, check_jobs};
 use std::alloc::Global;
 use std::test::Fail;
 
