@@ -1,17 +1,19 @@
 //! How long what threads share over words takes. Standard output has how much was done, standard error how long it took.
 //!
-//!     word_bench [channels|parcels|permits|forest|soak|gate_soak [WORDS]]
+//!     word_bench [channels|parcels|permits|forest|streams|soak|gate_soak|sleeps [WORDS]]
 //!
-//! What is not named is not measured; with no words all is, in this order, but the soaks. Each has words of its own, which its module
-//! tells:
+//! What is not named is not measured; with no words all is, in this order, but the soaks and `sleeps`. Each has words of its own, which its
+//! module tells:
 //!
 //! - `channels`: transfers through channels over words, through counted cells, and through crossbeam_channel.
 //! - `parcels`: boxes through channels of owned values, through rings, and through crossbeam_channel.
 //! - `semaphores`: permits, gates, and the kit's lock.
 //! - `forests`: calls on a forest of Jobs, and tickets through lanes.
+//! - `streams`: elements from a sink to a stream.
 //! - `soak`: numbers through a ring by four threads, each received once.
 //! - `gate_soak`: permits of a gate that four threads acquire and release.
 //! - `shares`: four shares of work, on one, two or four threads.
+//! - `sleeps`: what it costs to wait.
 #![tactic(auto)]
 
 mod channels;
@@ -20,7 +22,9 @@ mod gate_soak;
 mod parcels;
 mod semaphores;
 mod shares;
+mod sleeps;
 mod soak;
+mod streams;
 
 use std::rt::Env;
 use std::{env, io};
@@ -33,8 +37,10 @@ enum What {
     Parcels,
     Permits,
     Forest,
+    Streams,
     Soak,
     GateSoak,
+    Sleeps,
 }
 
 /// What the first word says.
@@ -47,8 +53,10 @@ fn what_of(word: Option<String>) -> Option<What> {
         "parcels" => Some(What::Parcels),
         "permits" => Some(What::Permits),
         "forest" => Some(What::Forest),
+        "streams" => Some(What::Streams),
         "soak" => Some(What::Soak),
         "gate_soak" => Some(What::GateSoak),
+        "sleeps" => Some(What::Sleeps),
         _ => None,
     }
 }
@@ -67,13 +75,16 @@ fn main(rt: HostRuntime) -> io::Result<()> {
         What::Parcels => parcels::bench(&rt),
         What::Permits => semaphores::bench(&rt),
         What::Forest => forests::bench(&rt),
+        What::Streams => streams::bench(&rt),
         What::Soak => soak::bench(&rt),
         What::GateSoak => gate_soak::bench(&rt),
+        What::Sleeps => sleeps::bench(&rt),
         What::All => {
             channels::bench(&rt)?;
             parcels::bench(&rt)?;
             semaphores::bench(&rt)?;
-            forests::bench(&rt)
+            forests::bench(&rt)?;
+            streams::bench(&rt)
         }
     }
 }

@@ -41,12 +41,10 @@ pub(crate) fn by_four<
     ensures c { C.post right.0 result.1.0 }
     ensures d { D.post right.1 result.1.1 }
 {
-    let (a, b) = left;
-    let (c, d) = right;
+    let ((a, b), (c, d)) = (left, right);
     if threads == 1 {
         let left = by_two(rt, a, b, false);
-        let right = by_two(rt, c, d, false);
-        return (left, right);
+        return (left, by_two(rt, c, d, false));
     }
     let at_once = threads != 2;
     join(
