@@ -38,3 +38,5 @@ impl<T> GhostList<T> {
         *self = GhostList::with(self, item);
     }
 }
+
+unsafe impl<T: Send> Send for GhostList<T> {}

@@ -3,7 +3,6 @@
 //! The list of its entries is the history that contracts see, and nothing is kept of it when the program runs; beside it is a
 //! representation from which every call is answered. Both are alone: nobody but the caller makes entries.
 //!
-//! - `entries`: what was made of a floor, as lists of which nothing is kept when the program runs.
 //! - `list_channel`: a channel as two deques and a table of waits.
 //! - `list_floor`: a floor as channels and the entries made so far; `list_new` makes one.
 //! - `list_queries`: what the lists say.
@@ -25,7 +24,6 @@
 //! - `tree_calls`: the calls on Jobs; `tree_beside`: what it hears of a floor of channels.
 #![tactic(auto)]
 
-mod entries;
 mod list_acts;
 mod list_admission;
 mod list_calls;

@@ -4,20 +4,17 @@
 //!
 //! - `tally`: the book.
 //! - `numbers`: what it keeps.
-//! - `noted`: the list that contracts see.
 //! - `totals`: the numbers of all tallies, added.
 //! - `counted`: what became of how many elements.
 //! - `text`: the line.
 #![tactic(auto)]
 
 mod counted;
-mod noted;
 mod numbers;
 mod tally;
 mod text;
 mod totals;
 
-pub use noted::Noted;
 pub use numbers::{ActNumbers, JobNumbers, Numbers};
 pub use tally::Tally;
 pub use text::{line_of, summary};

@@ -2,9 +2,8 @@
 
 ghost use Rattle.std.specs.Prelude.{◌≡◌, []};
 
-use crate::noted::Noted;
 use crate::numbers::{NO_NUMBERS, Numbers};
-use co_base::Memory;
+use co_base::{GhostList, Memory};
 use note_book::{Item, NoteBook};
 use poll_states::Book;
 use std::alloc::Global;
@@ -13,7 +12,7 @@ use std::marker::Model;
 /// How many notes of each kind a coroutine made. Contracts see the notes, of which nothing is kept when the program runs.
 #[derive(Drop)]
 pub struct Tally {
-    noted: Noted,
+    noted: GhostList<Item>,
     numbers: Numbers,
 }
 
@@ -37,7 +36,7 @@ impl Tally {
         ensures { result ≡ [] }
     {
         Tally {
-            noted: Noted::new(),
+            noted: GhostList::new(),
             numbers: NO_NUMBERS,
         }
     }
@@ -68,7 +67,7 @@ impl NoteBook for Tally {
     #[inline(always)]
     fn note(&mut self, item: Item) {
         self.numbers.add(&item);
-        self.noted = Noted::with(&self.noted, &item);
+        self.noted = GhostList::with(&self.noted, &item);
     }
 }
 

@@ -1,26 +1,23 @@
 -- An empty list owns nothing.
-use Rattle.std.proofs.Common.{◌≡◌, ℕ, List, [], ◌∷◌, ◌++◌, refl, sym, subst}
+use Rattle.std.proofs.Common.{◌≡◌, [], ◌∷◌, refl}
 use mir.Syntax.{a_type}
-use mir.Val.{Val, vptr, vstruct, vcons, vnil}
+use mir.Val.{Val, vstruct, vcons, vnil}
 use mir.MapTy.{inst_fn}
-use base.Logic.{SProp, ent, emp, id⊢}
-use prog.Wp.{WpFn}
-use types.Kit.{‵, raw, ◌⊛◌, ◌$◌, ◌∵◌, !, qed, by, keep, split, fjoin, suffices, use0, move}
+use base.Logic.{SProp, emp}
+use types.Kit.{‵, raw, ◌⊛◌, ◌$◌, ◌∵◌, !, qed, by, keep, split, use0}
 use types.Run.{no_more, and_then, returns, enter}
 use types.ByLocal.{alloc_all, pass_all, free_all, look_at, get, sets}
 use types.Part.{agg}
 use contract.Monad.{fact, fact_i}
 use contract.Running.{tables}
 use denote.RattleType.{RattleType, owns}
-use denote.Signature.{types_at, type_at, plain}
+use denote.Signature.{types_at, type_at}
 use denote.Steps.{nothing}
 use denote.Shadow.{pure_i}
 use denote.Param.{param, layouts}
-use denote.Param.Laws.{param_laws}
 use denote.Triple.Walked.{Stays, walk_of}
 use denote.Triple.Entry.{alive}
 use Rattle.std.proofs.raw_atomic.Walks.{proved_at, leaves}
-use Rattle.co_base.specs.contracts.ghost_list.GhostList as list
 use Rattle.co_base.specs.contracts.ghost_list.GhostList.new.{ended, clauses}
 use Rattle.co_base.specs.contracts.ghost_list.GhostList.new.Key.{name as #self}
 use Rattle.co_base.proofs.ghost_list.GhostList.new.Statement.{statement}
