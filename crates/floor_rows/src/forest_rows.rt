@@ -8,8 +8,9 @@ ghost use Rattle.job_words.specs.Rangers.{ranger_floor, ranger_anchor};
 ghost use Rattle.one_thread_floor.specs.TreeFloors.{floor_of};
 
 use co_base::{Memory, Row, Tag, Value, Wakes};
+use floor_tests::NoWakes;
 use floor_tests::forest_shares::{
-    Answer, Call, Four, NoWakes, Share, Work, cancel_root, is_attached, make, make_by, meet_both,
+    Answer, Call, Four, Share, Work, cancel_root, is_attached, make, make_by, meet_both,
     new_forest, run, share_of, split_off, work_by,
 };
 use forest_calls::finish_up;

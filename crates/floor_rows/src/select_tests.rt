@@ -12,21 +12,13 @@ use cell_words::{Hub, Pass};
 use channel_calls::Caller;
 use channel_model::{Act, ChannelFloor, ChannelNote, Kind, Settled, WaitState, Why};
 use co_base::{Memory, Tag, Value, WaitId, Wakes};
-use floor_tests::{Beside, Between, OTHER, OtherCall};
+use floor_tests::{Beside, Between, NoWakes, OTHER, OtherCall};
 use note_book::{Item, NoteBook, Notes};
 use one_thread_floor::ListFloor;
 use select_calls::{Clause, Outcome, SelectAnswer, select_poll};
 use std::alloc::Global;
 use std::collections::VecDeque;
 use std::test::Fail;
-
-/// Nobody is polled.
-#[derive(Drop)]
-struct NoWakes;
-
-impl Wakes for NoWakes {
-    fn wake(&mut self, _tag: Tag) {}
-}
 
 /// The coroutine that selects.
 pub(crate) const USER: Tag = 1;

@@ -11,6 +11,6 @@ mod on_passes;
 mod shares;
 
 pub use at_once::{Four, work_by};
-pub use calls::{Answer, Call, NoWakes, is_attached, make};
+pub use calls::{Answer, Call, is_attached, make};
 pub use on_passes::{cancel_root, make_by, meet_both, new_forest, split_off};
 pub use shares::{Share, Work, run, share_of};

@@ -3,6 +3,7 @@
 //! - `other_calls`: the coroutine that calls in between, and its calls.
 //! - `between`, `between_calls`: a floor on which it makes one before each call of the user.
 //! - `beside`, `beside_calls`: the same where it has a floor of its own on the same channels.
+//! - `no_wakes`: wakes of which nothing comes.
 //! - `permit_calls`: calls of several coroutines on the permits of a semaphore.
 //! - `forest_shares`: calls on a forest of Jobs, and its tags shared out among passes.
 #![tactic(auto)]
@@ -12,9 +13,11 @@ mod beside_calls;
 mod between;
 mod between_calls;
 pub mod forest_shares;
+mod no_wakes;
 mod other_calls;
 pub mod permit_calls;
 
 pub use beside::Beside;
 pub use between::Between;
+pub use no_wakes::NoWakes;
 pub use other_calls::{OTHER, OtherCall};

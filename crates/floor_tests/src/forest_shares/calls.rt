@@ -4,7 +4,8 @@ ghost use Rattle.job_model.specs.Histories.{replay};
 ghost use Rattle.job_model.specs.Floors.{SameSetting, MayCall};
 ghost use Rattle.job_tree.specs.Rooms.{MayCancelAll};
 
-use co_base::{Memory, Row, Tag, Value, Wakes};
+use crate::no_wakes::NoWakes;
+use co_base::{Memory, Row, Tag, Value};
 use job_model::{
     AttachError, Attached, CancelledNow, Ended, Finished, JobFloor, JobKind, JobView, Link, Reason,
 };
@@ -62,14 +63,6 @@ pub enum Answer {
     FinishedAndTold(Finished, Ended),
     Seen(Option<JobView>),
     Linked(Link),
-}
-
-/// Nobody is polled.
-#[derive(Drop)]
-pub struct NoWakes;
-
-impl Wakes for NoWakes {
-    fn wake(&mut self, _tag: Tag) {}
 }
 
 /// Whether the row is attached.

@@ -6,7 +6,8 @@ ghost use Rattle.job_words.specs.Forests.{seen_by, IsOwn, SameGiving};
 ghost use Rattle.floor_tests.specs.Shares.{GivesFrom};
 ghost use Rattle.job_words.specs.Rangers.{ranger_floor, ranger_anchor};
 
-use crate::forest_shares::calls::{Answer, Call, NoWakes, make};
+use crate::forest_shares::calls::{Answer, Call, make};
+use crate::no_wakes::NoWakes;
 use co_base::{Memory, Tag};
 use forest_calls::cancel_pass;
 use job_model::Reason;

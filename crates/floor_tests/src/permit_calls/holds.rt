@@ -5,7 +5,8 @@ ghost use Rattle.channel_calls.specs.Calls.{SameCaller};
 ghost use Rattle.permits.specs.Parts.{UsesPermits};
 ghost use Rattle.floor_tests.specs.KnownPermits.{HoldsWait};
 
-use crate::permit_calls::known_calls::{NoWakes, take_up_if_resolved};
+use crate::no_wakes::NoWakes;
+use crate::permit_calls::known_calls::take_up_if_resolved;
 use channel_calls::Caller;
 use channel_model::ChannelFloor;
 use co_base::{Memory, Tag, WaitId, Wakes};

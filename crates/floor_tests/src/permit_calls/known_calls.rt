@@ -8,6 +8,7 @@ ghost use Rattle.cell_calls.specs.HubFloors.{hub_floor};
 ghost use Rattle.permits.specs.Parts.{UsesPermits, MayFill};
 ghost use Rattle.floor_tests.specs.KnownPermits.{HoldsWait, Knows, WaitsStill, Adds, used, after_acquire};
 
+use crate::no_wakes::NoWakes;
 use cell_calls::Desk;
 use cell_words::{Hub, Pass};
 use channel_calls::Caller;
@@ -19,14 +20,6 @@ use permits::{
     release, take_up, try_acquire,
 };
 use std::alloc::Global;
-
-/// Nobody is polled.
-#[derive(Drop)]
-pub(crate) struct NoWakes;
-
-impl Wakes for NoWakes {
-    fn wake(&mut self, _tag: Tag) {}
-}
 
 /// What a coroutine knows of its use of the permits.
 #[derive(Clone, Copy)]
