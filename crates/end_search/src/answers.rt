@@ -5,6 +5,7 @@ ghost use Rattle.script_reader.specs.Scripts.{program_of};
 ghost use Rattle.end_search.specs.Blocks.{Blocks, Explores, Fits, TellsInOrder, TellsOf, count_text, does_suit};
 
 use crate::blocks::{Shown, block_of};
+use crate::known::is_plain;
 use crate::local::is_calm;
 use crate::losses::can_lose;
 use crate::parts::Task;
@@ -92,6 +93,7 @@ fn ways_found<R: Threads + Sync, G: Gate + Sync, E: Sink>(
         script,
         calm,
         losses: told && (!calm || can_lose(script)),
+        plain: is_plain(script),
     };
     let search = Search {
         task,

@@ -6,14 +6,17 @@
 //! - `reads`: which coroutines read what they received.
 //! - `losses`: what was lost.
 //! - `keys`: a state of a run as numbers.
+//! - `sections`: the sections of a state.
 //! - `aheads`: what was found of states before their turn.
 //! - `states`: the states that were seen, and how each was reached.
+//! - `effects`: what polls did, by the sections that they could look at.
 //! - `refusals`: the lines of sends that closed channels refused.
 //! - `names`: how the Jobs ended, by the names of their coroutines.
 //! - `wanted`: which ends are looked for, and by what two ends are told apart.
 //! - `local`: polls that no other coroutine can hinder.
 //! - `samples`: runs in random orders.
 //! - `parts`: what one worker finds of some of the states.
+//! - `known`: the polls of a state, as far as it is known what they do.
 //! - `ways`: the search.
 //! - `blocks`: what is printed of an end.
 //! - `answers`: what is printed of a search; the report of one run.
@@ -22,7 +25,9 @@
 mod aheads;
 mod answers;
 mod blocks;
+mod effects;
 mod keys;
+mod known;
 mod local;
 mod losses;
 mod names;
@@ -30,6 +35,7 @@ mod parts;
 mod reads;
 mod refusals;
 mod samples;
+mod sections;
 mod states;
 mod wanted;
 mod ways;

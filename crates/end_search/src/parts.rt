@@ -6,6 +6,7 @@ ghost use Rattle.engine_one.specs.Trials.{TrialStands};
 
 use crate::aheads::{Ahead, Found, Poll};
 use crate::keys::Keys;
+use crate::known::{Known, add_by_effects};
 use crate::local::is_local;
 use crate::states::{States, hash_of};
 use channel_model::{Act, ChannelNote, Settled};
@@ -38,6 +39,8 @@ pub(crate) struct Task<'a> {
     pub(crate) calm: bool,
     /// Whether losses are told apart.
     pub(crate) losses: bool,
+    /// Whether polls look at nothing but their coroutine, the Jobs and the channels that they note: no select stands at several of them.
+    pub(crate) plain: bool,
 }
 
 /// States, from the one with the first number up to that with the second.
@@ -146,7 +149,7 @@ impl Part {
     }
 
     /// Adds a poll of the state that is looked at. Of a state that was seen the key is not needed.
-    fn add(&mut self, poll: Poll, seen: bool, key: &[u64]) -> Result<(), Memory> {
+    pub(crate) fn add(&mut self, poll: Poll, seen: bool, key: &[u64]) -> Result<(), Memory> {
         let start = self.keys.len();
         if !seen {
             self.keys.extend_from_slice(key)?;
@@ -194,7 +197,7 @@ impl Part {
     }
 
     /// Leaves the polls of the state that is looked at out.
-    fn take_back(&mut self) {
+    pub(crate) fn take_back(&mut self) {
         let before = self.ends.last().copied().unwrap_or(0);
         if let Some(first) = self.polls.get(before).copied() {
             self.keys.truncate(first.key.start);
@@ -206,9 +209,12 @@ impl Part {
 
 /// What a worker works with.
 #[derive(Drop)]
-struct Desk {
-    trial: Trial<Notes>,
-    keys: Keys,
+pub(crate) struct Desk {
+    pub(crate) trial: Trial<Notes>,
+    pub(crate) keys: Keys,
+    pub(crate) known: Known,
+    /// The polls by which the state that is looked at was reached.
+    pub(crate) order: Vec<Tag>,
     /// At the place that a hash names, one of a state that was new.
     hashes: Vec<u64>,
     /// At the place that a coroutine and its last note name, whether the poll behind such a note did not suffice, when it was made last.
@@ -216,12 +222,14 @@ struct Desk {
 }
 
 impl Desk {
-    fn new(alloc: Global, task: Task) -> Result<Desk, Memory>
+    pub(crate) fn new(alloc: Global, task: Task) -> Result<Desk, Memory>
         ensures { IfOk result (λ desk. TrialStands (program_of task.entry.script.now) desk.trial) }
     {
         Ok(Desk {
             trial: Trial::new(alloc, task.script)?,
             keys: Keys::new(alloc, task.script, task.losses)?,
+            known: Known::new(alloc, task.script)?,
+            order: Vec::new(alloc),
             hashes: vec![in alloc; 0u64; HASHES]?,
             habits: vec![in alloc; false; HABITS]?,
         })
@@ -241,7 +249,7 @@ fn is_first(hashes: &mut Vec<u64>, hash: u64) -> bool {
     }
 }
 
-/// The parts of these states, in their order, found by so many workers side by side.
+/// The parts of these states, in their order, found by so many workers side by side; one alone works with this desk.
 pub(crate) fn parts_of<R: Threads + Sync, G: Gate + Sync>(
     rt: &R,
     alloc: Global,
@@ -250,14 +258,21 @@ pub(crate) fn parts_of<R: Threads + Sync, G: Gate + Sync>(
     states: &States,
     span: Span,
     workers: u8,
-) -> Result<Vec<Part>, Memory> {
-    let workers = u32::from(workers).min(span.pieces()).max(1);
+    desk: &mut Desk,
+) -> Result<Vec<Part>, Memory>
+    requires { TrialStands (program_of task.script.now) desk.old.trial }
+    ensures { OnOk result (TrialStands (program_of task.entry.script.now) desk.new.trial) }
+{
     let next = AtomicU32::new(0);
+    let workers = u32::from(workers).min(span.pieces()).max(1);
+    if workers == 1 {
+        return pieces_of(alloc, task, gate, states, span, &next, desk);
+    }
     let found = thread::map_indices(
         rt,
         alloc,
         workers as usize,
-        &|_worker| pieces_of(alloc, task, gate, states, span, &next),
+        &|_worker| pieces_apart(alloc, task, gate, states, span, &next),
     )?;
     let mut parts = Vec::new(alloc);
     for some in found {
@@ -289,6 +304,19 @@ fn in_order(alloc: Global, span: Span, parts: Vec<Part>) -> Result<Vec<Part>, Me
     Ok(sorted)
 }
 
+/// The parts that a worker finds at a desk of its own.
+fn pieces_apart<G: Gate>(
+    alloc: Global,
+    task: Task,
+    gate: &G,
+    states: &States,
+    span: Span,
+    next: &AtomicU32,
+) -> Result<Vec<Part>, Memory> {
+    let mut desk = Desk::new(alloc, task)?;
+    pieces_of(alloc, task, gate, states, span, next, &mut desk)
+}
+
 /// The parts that a worker finds: it takes the next piece that none took, until there is none.
 fn pieces_of<G: Gate>(
     alloc: Global,
@@ -297,15 +325,18 @@ fn pieces_of<G: Gate>(
     states: &States,
     span: Span,
     next: &AtomicU32,
-) -> Result<Vec<Part>, Memory> {
+    desk: &mut Desk,
+) -> Result<Vec<Part>, Memory>
+    requires { TrialStands (program_of task.script.now) desk.old.trial }
+    ensures { OnOk result (TrialStands (program_of task.entry.script.now) desk.new.trial) }
+{
     let mut parts = Vec::new(alloc);
-    let mut desk = Desk::new(alloc, task)?;
     for _ in 0..span.pieces() {
         let place = next.fetch_add(1, Ordering::SeqCst);
         if place >= span.pieces() {
             break;
         }
-        parts.push(part_of(alloc, task, gate, states, span.piece(place), &mut desk)?)?;
+        parts.push(part_of(alloc, task, gate, states, span.piece(place), desk)?)?;
     }
     Ok(parts)
 }
@@ -323,15 +354,14 @@ fn part_of<G: Gate>(
     ensures { OnOk result (TrialStands (program_of task.entry.script.now) desk.new.trial) }
 {
     let mut part = Part::new(alloc, span);
-    let mut order = Vec::new(alloc);
     for state in span.from..span.to {
-        states.read_order(state, &mut order)?;
         let around = Around {
             task,
             states,
+            state,
             ahead: states.aheads.of(state),
         };
-        add_polls(alloc, around, gate, desk, &mut part, order.as_slice())?;
+        add_state(alloc, around, gate, desk, &mut part)?;
         part.end_state()?;
     }
     Ok(part)
@@ -339,9 +369,10 @@ fn part_of<G: Gate>(
 
 /// What is known before a state is looked at.
 #[derive(Clone, Copy)]
-struct Around<'a> {
-    task: Task<'a>,
-    states: &'a States,
+pub(crate) struct Around<'a> {
+    pub(crate) task: Task<'a>,
+    pub(crate) states: &'a States,
+    pub(crate) state: u32,
     /// What was found of the state, if it was.
     ahead: Option<Ahead<'a>>,
 }
@@ -354,6 +385,28 @@ impl Around<'_> {
             None => None,
         }
     }
+}
+
+/// Adds the polls that do something in a state; or one of them alone, if that suffices.
+fn add_state<G: Gate>(
+    alloc: Global,
+    around: Around,
+    gate: &G,
+    desk: &mut Desk,
+    part: &mut Part,
+) -> Result<(), Memory>
+    requires { TrialStands (program_of around.task.script.now) desk.old.trial }
+    ensures { OnOk result (TrialStands (program_of around.entry.task.script.now) desk.new.trial) }
+{
+    let serves = desk.known.serves();
+    if serves && around.task.plain && around.state > 0 {
+        if add_by_effects(alloc, around, gate, desk, part)? {
+            return Ok(());
+        }
+    }
+    let mut order = Vec::new(alloc);
+    around.states.read_order(around.state, &mut order)?;
+    add_polls(alloc, around, gate, desk, part, order.as_slice())
 }
 
 /// Adds the polls that do something behind this order; or one of them alone, if that suffices.

@@ -163,7 +163,7 @@ impl States {
     }
 
     /// The key of a state.
-    fn key_of(&self, state: usize) -> &[u64] {
+    pub(crate) fn key_of(&self, state: usize) -> &[u64] {
         let start = match self.steps.get(state.saturating_sub(1)) {
             Some(step) => step.key_end,
             None => 0,

@@ -7,7 +7,7 @@ ghost use Rattle.std.specs.Prelude.{OnOk};
 ghost use Rattle.script_reader.specs.Scripts.{program_of};
 ghost use Rattle.engine_one.specs.Trials.{TrialStands};
 
-use crate::parts::{Part, Reached, Span, Task, parts_of};
+use crate::parts::{Desk, Part, Reached, Span, Task, parts_of};
 use crate::samples::{Numbers, random_order, runs_of};
 use crate::states::States;
 use crate::wanted::{Tell, Told, Wanted, told_of};
@@ -17,8 +17,11 @@ use note_book::Notes;
 use std::alloc::Global;
 use std::thread::Threads;
 
-/// How many states of a span each worker looks at, at most.
-const SHARE: u32 = 1024;
+/// How many states a span has at most that one worker looks at.
+const ALONE: u32 = 1024;
+
+/// How many states of a span each of several workers looks at, at most: what they find of polls they know up to its end.
+const SHARE: u32 = 8192;
 
 /// After how many states the search says how far it is: one to three seconds.
 const STEP: u32 = 100000;
@@ -127,6 +130,7 @@ fn look_through<R: Threads + Sync, G: Gate + Sync, E: Sink>(
     errors: &mut E,
 ) -> Result<bool, Memory> {
     let mut from = 0;
+    let mut desk = Desk::new(alloc, search.task)?;
     for _ in 0..search.states {
         let span = span_from(from, course.states.count(), search.workers);
         if span.from >= span.to {
@@ -140,6 +144,7 @@ fn look_through<R: Threads + Sync, G: Gate + Sync, E: Sink>(
             &course.states,
             span,
             search.workers,
+            &mut desk,
         )?;
         for part in parts.as_slice() {
             if add_part(alloc, search, gate, course, errors, part)? {
@@ -154,7 +159,10 @@ fn look_through<R: Threads + Sync, G: Gate + Sync, E: Sink>(
 
 /// The states from this number on that are looked at next, of so many.
 fn span_from(from: u32, count: usize, workers: u8) -> Span {
-    let most = SHARE.saturating_mul(u32::from(workers).max(1));
+    let most = match workers {
+        0 | 1 => ALONE,
+        _ => SHARE.saturating_mul(u32::from(workers)),
+    };
     Span {
         from,
         to: from.saturating_add(most).min(number_of(count)),

@@ -1,0 +1,6 @@
+use Rattle.script_reader.specs.Scripts.{program_of}
+use Rattle.engine_one.specs.Trials.{TrialStands}
+use Rattle.end_search.proofs.known.add_by_effects.Given as goal
+
+abbrev pub invariant-loop-tag : goal.invariant-loop-tag
+invariant-loop-tag g l = TrialStands (program_of l.around.task.script.now) l.desk.trial

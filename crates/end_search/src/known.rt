@@ -1,0 +1,387 @@
+//! The polls of a state, as far as it is known what they do; those of which it is not known are made once.
+
+ghost use Rattle.std.specs.Prelude.{OnOk};
+ghost use Rattle.script_reader.specs.Scripts.{program_of};
+ghost use Rattle.engine_one.specs.Trials.{TrialStands};
+
+use crate::aheads::Poll;
+use crate::effects::{Change, Effect, Effects};
+use crate::keys::Keys;
+use crate::local::is_local;
+use crate::parts::{Around, Desk, Part};
+use crate::sections::Layout;
+use crate::states::hash_of;
+use channel_model::{Act, ChannelNote};
+use co_base::{ChannelId, Gate, Memory, Tag};
+use engine_one::Trial;
+use note_book::{Item, Notes};
+use script_grammar::Instruction;
+use script_reader::Script;
+use std::alloc::Global;
+
+/// Of scripts with more coroutines or channels it is not kept what polls do.
+const MOST: usize = 256;
+
+/// After so many polls it is asked whether enough of them were known.
+const ASKED: u32 = 1024;
+
+/// If too few were, so many states are looked at as if nothing were known.
+const LEFT: u32 = 32768;
+
+/// Whether a poll of the script looks at nothing but its coroutine, the Jobs and the channels that it notes. A select stands at several
+/// channels at once: who meets it at one takes it away from the others, too.
+pub(crate) fn is_plain(script: &Script) -> bool {
+    for block in script.blocks() {
+        for line in block.code.as_slice() {
+            if matches!(*line, Instruction::Select) {
+                return false;
+            }
+        }
+    }
+    (script.coroutines() as usize) < MOST && script.channels().len() < MOST
+}
+
+/// What is known of polls, and the state that is looked at.
+#[derive(Drop)]
+pub(crate) struct Known {
+    layout: Layout,
+    effects: Effects,
+    /// The contents of the sections of the state that is looked at.
+    sections: Vec<u32>,
+    /// The same behind a poll.
+    behind: Vec<u32>,
+    ends: Vec<usize>,
+    changes: Vec<Change>,
+    /// How many polls were known of late, and how many were made.
+    known: u32,
+    made: u32,
+    /// So many states are looked at as if nothing were known.
+    left: u32,
+}
+
+impl Known {
+    pub(crate) fn new(alloc: Global, script: &Script) -> Result<Known, Memory> {
+        Ok(Known {
+            layout: Layout::new(alloc, script)?,
+            effects: Effects::new(alloc),
+            sections: Vec::new(alloc),
+            behind: Vec::new(alloc),
+            ends: Vec::new(alloc),
+            changes: Vec::new(alloc),
+            known: 0,
+            made: 0,
+            left: 0,
+        })
+    }
+
+    /// Whether to look at the next state by what is known: of the polls of late at least half were known. Where channels have ever new contents
+    /// few are, and to look for them takes longer than to make them.
+    pub(crate) fn serves(&mut self) -> bool {
+        if self.left > 0 {
+            self.left -= 1;
+            return false;
+        }
+        if self.known.saturating_add(self.made) >= ASKED {
+            if self.made > self.known {
+                self.left = LEFT;
+            }
+            self.known = 0;
+            self.made = 0;
+        }
+        self.left == 0
+    }
+
+    /// What stands for the section of a coroutine in the state that is looked at, and for that of the Jobs.
+    fn seen_by(&self, tag: Tag) -> (u32, u32) {
+        let sections = self.sections.as_slice();
+        let own = section(sections, self.layout.place_of(tag as usize));
+        (own, section(sections, self.layout.channels()))
+    }
+
+    /// What a poll of this coroutine does in the state that is looked at, if it is known.
+    fn effect_of(&self, tag: Tag) -> Option<Effect> {
+        self.effects
+            .find(self.sections.as_slice(), tag, self.seen_by(tag))
+    }
+}
+
+/// Adds the polls that do something in a state; or one of them alone, if that suffices. The answer is no, and nothing is added, if its
+/// sections cannot be kept.
+pub(crate) fn add_by_effects<G: Gate>(
+    alloc: Global,
+    around: Around,
+    gate: &G,
+    desk: &mut Desk,
+    part: &mut Part,
+) -> Result<bool, Memory>
+    requires { TrialStands (program_of around.task.script.now) desk.old.trial }
+    ensures { OnOk result (TrialStands (program_of around.entry.task.script.now) desk.new.trial) }
+{
+    desk.keys.read(around.states.key_of(around.state as usize))?;
+    if !read_state(&mut desk.known, &desk.keys)? {
+        return Ok(false);
+    }
+    let mut there = false;
+    for tag in 0..around.task.script.coroutines() {
+        let Some(poll) = poll_by(alloc, around, gate, desk, tag, &mut there)? else {
+            continue;
+        };
+        add_poll(around, desk.keys.last(), part, poll)?;
+        if poll.local {
+            return Ok(true);
+        }
+    }
+    Ok(true)
+}
+
+/// Adds this poll, which leads to a state with this key; if it suffices, it alone.
+fn add_poll(around: Around, key: &[u64], part: &mut Part, poll: Poll) -> Result<(), Memory> {
+    if poll.local {
+        part.take_back();
+    }
+    let seen = around.states.has(poll.hash, key);
+    part.add(poll, seen, key)
+}
+
+/// The poll of this coroutine in the state that is looked at, if it does something; the key of the state that it leads to is made then.
+/// `there` tells whether the run is at the state.
+fn poll_by<G: Gate>(
+    alloc: Global,
+    around: Around,
+    gate: &G,
+    desk: &mut Desk,
+    tag: Tag,
+    there: &mut bool,
+) -> Result<Option<Poll>, Memory>
+    requires { TrialStands (program_of around.task.script.now) desk.old.trial }
+    ensures { OnOk result (TrialStands (program_of around.entry.task.script.now) desk.new.trial) }
+{
+    if let Some(effect) = desk.known.effect_of(tag) {
+        desk.known.known = desk.known.known.saturating_add(1);
+        return poll_known(&mut desk.known, &mut desk.keys, tag, effect);
+    }
+    desk.known.made = desk.known.made.saturating_add(1);
+    if !*there {
+        around.states.read_order(around.state, &mut desk.order)?;
+        desk.trial
+            .go_to(alloc, around.task.script, gate, desk.order.as_slice())?;
+    }
+    let made = poll_made(around, gate, desk, tag)?;
+    *there = made.is_none();
+    Ok(made)
+}
+
+/// Numbers the sections of the state whose key was read last. The answer is no, if there is no room.
+fn read_state(known: &mut Known, keys: &Keys) -> Result<bool, Memory> {
+    known.effects.make_room()?;
+    read_sections(
+        &known.layout,
+        &mut known.effects,
+        keys,
+        &mut known.ends,
+        &mut known.sections,
+    )
+}
+
+/// Numbers the sections of the key that was made or read last. The answer is no, if there is no room.
+fn read_sections(
+    layout: &Layout,
+    effects: &mut Effects,
+    keys: &Keys,
+    ends: &mut Vec<usize>,
+    sections: &mut Vec<u32>,
+) -> Result<bool, Memory> {
+    sections.clear();
+    let numbers = keys.numbers();
+    layout.read_ends(numbers, ends)?;
+    ends.push(numbers.len())?;
+    let mut from = 0usize;
+    for end in ends.as_slice() {
+        let content = numbers.get(from..*end).unwrap_or(&[]);
+        let Some(number) = effects.number_of(content)? else {
+            return Ok(false);
+        };
+        sections.push(number)?;
+        from = *end;
+    }
+    Ok(true)
+}
+
+fn section(sections: &[u32], place: usize) -> u32 {
+    match sections.get(place) {
+        Some(number) => *number,
+        None => 0,
+    }
+}
+
+/// The poll that does this, if anything; the key of the state that it leads to is made then.
+fn poll_known(
+    known: &mut Known,
+    keys: &mut Keys,
+    tag: Tag,
+    effect: Effect,
+) -> Result<Option<Poll>, Memory> {
+    if !effect.moved {
+        return Ok(None);
+    }
+    known.behind.clear();
+    known.behind.extend_from_slice(known.sections.as_slice())?;
+    put_changes(&mut known.behind, known.effects.changes_of(effect));
+    keys.begin();
+    for number in known.behind.as_slice() {
+        keys.push(known.effects.content(*number))?;
+    }
+    keys.pack()?;
+    Ok(Some(Poll {
+        tag,
+        local: effect.local,
+        hash: hash_of(keys.last()),
+    }))
+}
+
+fn put_changes(sections: &mut Vec<u32>, changes: &[Change]) {
+    for change in changes {
+        if let Some(here) = sections.get_mut(change.place) {
+            *here = change.behind;
+        }
+    }
+}
+
+/// Polls this coroutine where the run is, and keeps what it did. The answer is the poll, if it did anything; the key of the state that it
+/// leads to is made then.
+fn poll_made<G: Gate>(
+    around: Around,
+    gate: &G,
+    desk: &mut Desk,
+    tag: Tag,
+) -> Result<Option<Poll>, Memory>
+    requires { TrialStands (program_of around.task.script.now) desk.old.trial }
+    ensures { OnOk result (TrialStands (program_of around.entry.task.script.now) desk.new.trial) }
+{
+    let script = around.task.script;
+    let before = noted(&desk.trial, tag).len();
+    let Some(polled) = desk.trial.poll(script, gate, tag)? else {
+        keep_nothing(&mut desk.known, tag)?;
+        return Ok(None);
+    };
+    let local = is_local(script, around.task.calm, polled);
+    desk.keys.make(&desk.trial)?;
+    let items = noted(&desk.trial, tag);
+    let count = items.len();
+    let told = items.get(before..count).unwrap_or(&[]);
+    keep_effect(&mut desk.known, &desk.keys, tag, told, local)?;
+    Ok(Some(Poll {
+        tag,
+        local,
+        hash: hash_of(desk.keys.last()),
+    }))
+}
+
+/// Keeps that a poll of this coroutine did nothing.
+fn keep_nothing(known: &mut Known, tag: Tag) -> Result<(), Memory> {
+    known.behind.clear();
+    known.behind.extend_from_slice(known.sections.as_slice())?;
+    find_changes(known, tag, &[])?;
+    let seen = known.seen_by(tag);
+    known
+        .effects
+        .add(tag, seen, (false, false), known.changes.as_slice())
+}
+
+/// Keeps what a poll did that noted this, if there is room.
+fn keep_effect(
+    known: &mut Known,
+    keys: &Keys,
+    tag: Tag,
+    noted: &[Item],
+    local: bool,
+) -> Result<(), Memory> {
+    if !read_sections(
+        &known.layout,
+        &mut known.effects,
+        keys,
+        &mut known.ends,
+        &mut known.behind,
+    )? {
+        return Ok(());
+    }
+    find_changes(known, tag, noted)?;
+    let seen = known.seen_by(tag);
+    known
+        .effects
+        .add(tag, seen, (true, local), known.changes.as_slice())
+}
+
+/// Finds the sections that a poll which noted this looked at or changed.
+fn find_changes(known: &mut Known, tag: Tag, noted: &[Item]) -> Result<(), Memory> {
+    known.changes.clear();
+    let jobs = known.layout.channels();
+    let own = known.layout.place_of(tag as usize);
+    for place in 0..known.sections.len() {
+        let before = section(known.sections.as_slice(), place);
+        let behind = section(known.behind.as_slice(), place);
+        let looked = place == jobs || place == own || before != behind;
+        if looked || (place < jobs && has_noted(noted, place)) {
+            known.changes.push(Change {
+                place,
+                before,
+                behind,
+            })?;
+        }
+    }
+    Ok(())
+}
+
+/// What a coroutine noted.
+fn noted(trial: &Trial<Notes>, tag: Tag) -> &[Item] {
+    match trial.book(tag as usize) {
+        Some(book) => book.items(),
+        None => &[],
+    }
+}
+
+/// Whether something of this channel is among these.
+fn has_noted(items: &[Item], channel: usize) -> bool {
+    for item in items {
+        if let Item::Channel(note) = *item {
+            if channel_of(note) as usize == channel {
+                return true;
+            }
+        }
+    }
+    false
+}
+
+fn channel_of(note: ChannelNote) -> ChannelId {
+    match note {
+        ChannelNote::Made(act) => channel_of_act(act),
+        ChannelNote::SendClosed { c, .. }
+        | ChannelNote::TrySendClosed { c, .. }
+        | ChannelNote::ReceiveClosed { c, .. }
+        | ChannelNote::TryReceiveClosed { c, .. }
+        | ChannelNote::AlreadyClosed { c, .. }
+        | ChannelNote::Full { c, .. }
+        | ChannelNote::Empty { c }
+        | ChannelNote::Spent { c }
+        | ChannelNote::Partner { c, .. } => c,
+        ChannelNote::MainResolved { w } | ChannelNote::Late { w } => w.channel,
+    }
+}
+
+fn channel_of_act(act: Act) -> ChannelId {
+    match act {
+        Act::Hand { c, .. }
+        | Act::Put { c, .. }
+        | Act::Offer { c, .. }
+        | Act::Await { c, .. }
+        | Act::Take { c, .. }
+        | Act::Admit { c, .. }
+        | Act::Drop { c, .. }
+        | Act::Spurn { c, .. }
+        | Act::Close { c, .. }
+        | Act::Void { c }
+        | Act::Drain { c, .. }
+        | Act::WakeClosed { c, .. } => c,
+        Act::Withdraw { w, .. } | Act::Settle { w, .. } => w.channel,
+    }
+}
