@@ -1,4 +1,4 @@
-//! The search for an order of polls: depth first, each state once. It is not trusted.
+//! The search for an order of polls: depth first, without going through the same states again and again. It is not trusted.
 
 ghost use Rattle.std.specs.Prelude.{OnOk};
 ghost use Rattle.script_reader.specs.Scripts.{program_of};
@@ -16,6 +16,9 @@ use note_book::{Item, Notes};
 use script_reader::Script;
 use std::alloc::Global;
 use std::collections::HashSet;
+
+/// Behind so many polls after one that was taken back, states are noted no more: a state takes as long as there are channels and Jobs.
+const NOTED: u32 = 1024;
 
 /// The lines that a run is to write.
 #[derive(Clone, Copy)]
@@ -57,12 +60,14 @@ pub(crate) struct Path {
     pub(crate) done: usize,
     /// How many polls were made.
     pub(crate) polls: u64,
-    /// Whether a poll was ever taken back; from then on each state is visited once.
-    turned_back: bool,
+    /// For how many polls more each state is noted, so that it is visited once: some behind each poll that was taken back.
+    noted: u32,
     seen: HashSet<u64>,
     numbers: Vec<u64>,
     /// The most lines that were written, and the number of a line that could not be written then, with what is known of it.
     most: usize,
+    /// No coroutine before this one has a line left.
+    first: Tag,
     pub(crate) stuck: usize,
     pub(crate) hint: Hint,
 }
@@ -98,10 +103,11 @@ impl Path {
             marks: Vec::new(alloc),
             done: 0,
             polls: 0,
-            turned_back: false,
+            noted: 0,
             seen: HashSet::new(alloc),
             numbers: Vec::new(alloc),
             most: 0,
+            first: 0,
             stuck: 1,
             hint: Hint::Nothing,
         })
@@ -244,11 +250,12 @@ impl Path {
     }
 
     /// The number of the first line that is not written.
-    fn first_left(&self, wanted: Wanted, trial: &Trial<Notes>) -> usize {
+    fn first_left(&mut self, wanted: Wanted, trial: &Trial<Notes>) -> usize {
         if wanted.ordered {
             return self.done.saturating_add(1);
         }
-        for tag in 0..wanted.script.coroutines() {
+        for tag in self.first..wanted.script.coroutines() {
+            self.first = tag;
             if let Some(at) = wanted.plan.line_of(tag, written_by(trial, tag)) {
                 return at.saturating_add(1);
             }
@@ -297,20 +304,22 @@ impl Path {
         let _choice = self.choices.pop();
         self.scene.take_back(wanted.plan);
         self.done = mark;
-        self.turned_back = true;
+        self.first = 0;
+        self.noted = NOTED;
         true
     }
 
-    /// Whether the run was never here before.
+    /// Whether the run was never here before, as far as states are noted.
     fn is_new(
         &mut self,
         wanted: Wanted,
         trial: &Trial<Notes>,
-        noted: bool,
+        wrote: bool,
     ) -> Result<bool, Memory> {
-        if !self.turned_back || (wanted.ordered && noted) {
+        if self.noted == 0 || (wanted.ordered && wrote) {
             return Ok(true);
         }
+        self.noted = self.noted.saturating_sub(1);
         self.numbers.clear();
         trial.push_key(&[], &mut self.numbers)?;
         for tag in 0..wanted.script.coroutines() {
@@ -404,7 +413,7 @@ pub(crate) fn step<G: Gate>(
         return Ok(true);
     };
     if !path.fits(wanted, trial, tag, before) {
-        path.turned_back = true;
+        path.noted = NOTED;
         go_back(alloc, wanted, gate, trial, path)?;
         return Ok(true);
     }
