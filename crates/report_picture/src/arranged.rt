@@ -7,16 +7,16 @@ ghost use Rattle.report_picture.specs.Pictures.{StandInColumns, StandInOrder, is
 
 use crate::causes::causes_of;
 use crate::columns::Wanted;
-use crate::filled::filled;
+use crate::lists::{Gathered, filled, put};
 use crate::notes::Note;
 use crate::order::order_of;
 use crate::picture::Drawn;
-use crate::placed::{drawn_as_told, drawn_in};
+use crate::placed::{drawn_as_told, drawn_in, is_drawn};
 use crate::presumed::sources_in;
 use crate::sources::{Sources, all_stand_below};
-use crate::tables::Tables;
+use crate::told::Told;
 use co_base::Memory;
-use picture_parts::{Names, is_among};
+use picture_parts::Names;
 use report_reader::Line;
 use std::alloc::{AllocError, Global};
 
@@ -41,8 +41,7 @@ pub(crate) struct Arranged<'a> {
 #[derive(Clone, Copy)]
 pub(crate) struct Books<'s, 'a> {
     pub(crate) lines: &'s [Line<'a>],
-    pub(crate) notes: &'s [Note<'a>],
-    pub(crate) tables: &'s Tables<'a>,
+    pub(crate) told: &'s Told<'a>,
     pub(crate) wanted: Wanted,
     pub(crate) tags: &'s [u32],
     /// Of each line of the books the other coroutine that it concerns.
@@ -54,40 +53,60 @@ pub(crate) struct Books<'s, 'a> {
 impl Books<'_, '_> {
     /// Whether a line of the books is drawn.
     pub(crate) fn is_drawn(&self, note: &Note) -> bool {
-        !(self.wanted.only_channels && note.is_bookkeeping()) && is_among(note.tag, self.tags)
+        is_drawn(self.wanted, self.tags, note.line())
     }
+}
+
+/// Puts a line into the row behind the last, and answers the row behind that.
+fn put_row(rows: &mut Vec<u32>, books: Books, number: usize, end: u32) -> u32 {
+    put(rows, number, end);
+    if books.is_drawn(&books.told.note(number)) {
+        end.saturating_add(1)
+    } else {
+        end
+    }
+}
+
+/// Gives each line its row, and answers the row behind the last.
+fn give_rows(rows: &mut Vec<u32>, books: Books, numbers: &[usize]) -> u32 {
+    let mut end = 0u32;
+    for number in numbers {
+        end = put_row(rows, books, *number, end);
+    }
+    end
 }
 
 /// Of each line its row, from the numbers of the lines from the top down.
 fn rows_in(alloc: Global, books: Books, numbers: Vec<usize>) -> Result<Rows, AllocError> {
-    let mut rows = filled(alloc, 0u32, books.notes.len())?;
-    let mut end = 0u32;
-    for number in numbers.as_slice() {
-        if let Some(place) = rows.get_mut(*number) {
-            *place = end;
-        }
-        if let Some(note) = books.notes.get(*number)
-            && books.is_drawn(note)
-        {
-            end = end.saturating_add(1);
-        }
-    }
+    let mut rows = filled(alloc, 0u32, books.told.notes.len())?;
+    let end = give_rows(&mut rows, books, numbers.as_slice());
     Ok(Rows { numbers, rows, end })
 }
 
 /// The rows in an order that the causes of the lines allow; where there is none, lines are missing.
 fn allowed_rows<'a>(alloc: Global, books: Books<'_, 'a>) -> Result<Rows, AllocError> {
-    let causes = causes_of(alloc, books.notes, books.tables)?;
-    let numbers = order_of(alloc, books.notes.len(), causes.as_slice())?;
+    let numbers = caused_order(alloc, books.told)?;
     rows_in(alloc, books, numbers)
+}
+
+/// The numbers of the lines of the books in an order that their causes allow; where there is none, lines are missing.
+pub(crate) fn caused_order<'a>(alloc: Global, told: &Told<'a>) -> Result<Vec<usize>, AllocError> {
+    let mut causes = causes_of(alloc, told)?;
+    order_of(alloc, told.notes.len(), &mut causes)
+}
+
+/// The numbers from 0 on, so many.
+pub(crate) fn counted(alloc: Global, count: usize) -> Result<Vec<usize>, AllocError> {
+    let mut numbers = Gathered::new(alloc);
+    for number in 0..count {
+        numbers.add(number);
+    }
+    numbers.whole()
 }
 
 /// The rows in the order of the report.
 fn told_rows<'a>(alloc: Global, books: Books<'_, 'a>) -> Result<Rows, AllocError> {
-    let mut numbers = Vec::new(alloc);
-    for (number, _) in books.notes.iter().enumerate() {
-        numbers.push(number)?;
-    }
+    let numbers = counted(alloc, books.told.notes.len())?;
     rows_in(alloc, books, numbers)
 }
 
@@ -108,13 +127,7 @@ fn is_allowed<'a>(
     ensures { IfOk result (λ is. is ≡ true
         → StandBelow books.entry.wanted books.entry.tags.now (told_lines books.entry.lines.now) drawn.now) }
 {
-    let sources = sources_in(
-        alloc,
-        books.notes,
-        books.tables,
-        rows.rows.as_slice(),
-        drawn,
-    )?;
+    let sources = sources_in(alloc, books, rows.rows.as_slice())?;
     Ok(stand_below(books, drawn, sources.as_slice()))
 }
 
@@ -143,14 +156,14 @@ fn arranged_as_told<'a>(alloc: Global, books: Books<'_, 'a>) -> Result<Arranged<
     })
 }
 
-/// The lines, each below what it presupposes; where no order does, in the order of the report.
-pub(crate) fn arrange<'a>(alloc: Global, books: Books<'_, 'a>) -> Result<Arranged<'a>, Memory>
+/// The lines in an order that their causes allow, and whether each is found to stand below what it presupposes.
+fn arranged_by_causes<'a>(alloc: Global, books: Books<'_, 'a>) -> Result<Arranged<'a>, Memory>
     ensures once { IfOk result (λ arranged.
         lines_in arranged.drawn.items ≡ filter (is_drawn books.entry.wanted books.entry.tags.now) (told_lines books.entry.lines.now)) }
     ensures columns { IfOk result (λ arranged. StandInColumns books.entry.tags.now arranged.drawn.items) }
     ensures order { IfOk result (λ arranged. StandInOrder arranged.drawn.items) }
-    ensures ordered { IfOk result (λ arranged.
-        AreOrdered arranged.in_order books.entry.wanted books.entry.tags.now (told_lines books.entry.lines.now) arranged.drawn.items) }
+    ensures allowed { IfOk result (λ arranged. arranged.in_order ≡ true
+        → StandBelow books.entry.wanted books.entry.tags.now (told_lines books.entry.lines.now) arranged.drawn.items) }
 {
     let rows = allowed_rows(alloc, books)?;
     let drawn = drawn_in(
@@ -162,9 +175,30 @@ pub(crate) fn arrange<'a>(alloc: Global, books: Books<'_, 'a>) -> Result<Arrange
         books.targets,
         books.names,
     )?;
-    let allowed = is_allowed(alloc, books, &rows, drawn.as_slice())?;
-    let all = rows.numbers.len() == books.notes.len();
-    if allowed {
+    let in_order = is_allowed(alloc, books, &rows, drawn.as_slice())?;
+    Ok(Arranged {
+        rows,
+        drawn,
+        in_order,
+    })
+}
+
+/// The lines, each below what it presupposes; where no order does, in the order of the report.
+pub(crate) fn arrange<'a>(alloc: Global, books: Books<'_, 'a>) -> Result<Arranged<'a>, Memory>
+    ensures once { IfOk result (λ arranged.
+        lines_in arranged.drawn.items ≡ filter (is_drawn books.entry.wanted books.entry.tags.now) (told_lines books.entry.lines.now)) }
+    ensures columns { IfOk result (λ arranged. StandInColumns books.entry.tags.now arranged.drawn.items) }
+    ensures order { IfOk result (λ arranged. StandInOrder arranged.drawn.items) }
+    ensures ordered { IfOk result (λ arranged.
+        AreOrdered arranged.in_order books.entry.wanted books.entry.tags.now (told_lines books.entry.lines.now) arranged.drawn.items) }
+{
+    let Arranged {
+        rows,
+        drawn,
+        in_order,
+    } = arranged_by_causes(alloc, books)?;
+    let all = rows.numbers.len() == books.told.notes.len();
+    if in_order {
         if all {
             return Ok(Arranged {
                 rows,

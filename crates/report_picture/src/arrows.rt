@@ -1,11 +1,10 @@
 //! The arrows: of elements, of cancellations, and from what brought a line about.
 
-use crate::causes::sent_by;
+use crate::lists::{Gathered, NOWHERE, Numbers, at};
 use crate::looks::{Look, Shade};
-use crate::notes::{Note, Verb};
-use crate::tables::Tables;
+use crate::notes::{Fact, Note, Verb};
+use crate::told::Told;
 use std::alloc::{AllocError, Global};
-use std::collections::HashMap;
 
 /// An arrow from one line to another, by their numbers among the lines of the books.
 #[derive(Clone, Copy)]
@@ -19,7 +18,7 @@ pub(crate) struct Arrow {
 #[derive(Drop)]
 pub(crate) struct Channels<'a> {
     pub(crate) names: Vec<&'a [u8]>,
-    numbers: HashMap<&'a [u8], usize>,
+    numbers: Numbers<&'a [u8]>,
 }
 
 /// The looks of channels; the ninth looks like the first.
@@ -36,146 +35,112 @@ const SHADES: [Shade; 8] = [
 
 /// How the arrows of the channel with this number look.
 pub(crate) fn shade_of(number: usize) -> Shade {
-    match SHADES.get(number % 8) {
-        Some(shade) => *shade,
-        None => Shade::Blue,
-    }
+    at(&SHADES, number % 8, Shade::Blue)
 }
 
 impl<'a> Channels<'a> {
-    fn add(&mut self, channel: &'a [u8]) -> Result<(), AllocError> {
-        if self.numbers.get(&channel).is_none() {
-            self.numbers.insert(channel, self.names.len())?;
-            self.names.push(channel)?;
-        }
-        Ok(())
-    }
-
     fn look(&self, channel: &'a [u8]) -> Look {
-        match self.numbers.get(&channel) {
-            Some(number) => Look::Brings(shade_of(*number)),
-            None => Look::Brings(Shade::Blue),
+        Look::Brings(shade_of(self.numbers.at(channel)))
+    }
+}
+
+/// Adds a channel, if it is not there.
+fn add_channel<'a>(
+    names: &mut Gathered<&'a [u8]>,
+    numbers: &mut Numbers<&'a [u8]>,
+    channel: &'a [u8],
+) {
+    if numbers.at(channel) == NOWHERE {
+        numbers.put(channel, names.as_slice().len());
+        names.add(channel);
+    }
+}
+
+/// Adds the channels whose elements have arrows.
+fn add_channels<'a>(
+    names: &mut Gathered<&'a [u8]>,
+    numbers: &mut Numbers<&'a [u8]>,
+    told: &Told<'a>,
+) {
+    for note in told.notes.iter() {
+        if got(told, note) != NOWHERE {
+            add_channel(names, numbers, note.channel);
         }
     }
 }
 
 /// The channels whose elements have arrows.
-pub(crate) fn channels_of<'a>(
-    alloc: Global,
-    notes: &[Note<'a>],
-    tables: &Tables<'a>,
-) -> Result<Channels<'a>, AllocError> {
-    let mut channels = Channels {
-        names: Vec::new(alloc),
-        numbers: HashMap::new(alloc),
-    };
-    for note in notes {
-        if got(notes, tables, note).is_some() {
-            channels.add(note.channel)?;
-        }
-    }
-    Ok(channels)
-}
-
-/// The line in which the receiver goes on that waited at a place.
-pub(crate) fn settled_at<'a>(
-    notes: &[Note<'a>],
-    tables: &Tables<'a>,
-    channel: &'a [u8],
-    place: &'a [u8],
-) -> Option<usize> {
-    let number = tables.place(channel, place).awaits?;
-    match notes.get(number) {
-        Some(note) => tables.wait(note.wait).settles,
-        None => None,
-    }
+pub(crate) fn channels_of<'a>(alloc: Global, told: &Told<'a>) -> Result<Channels<'a>, AllocError> {
+    let mut names = Gathered::new(alloc);
+    let mut numbers = Numbers::new(alloc);
+    add_channels(&mut names, &mut numbers, told);
+    let numbers = numbers.whole()?;
+    let names = names.whole()?;
+    Ok(Channels { names, numbers })
 }
 
 /// The line that got what this line brought, if one did.
-fn got<'a>(notes: &[Note<'a>], tables: &Tables<'a>, note: &Note<'a>) -> Option<usize> {
+fn got<'a>(told: &Told<'a>, note: &Note<'a>) -> usize {
     match note.verb {
-        Verb::Hand => settled_at(notes, tables, note.channel, note.place),
-        Verb::Put | Verb::Offer => tables.place(note.channel, note.place).takes,
-        _ => None,
+        Verb::Hand => told.settled_at(note.channel, note.place),
+        Verb::Put | Verb::Offer => told.at_place(Fact::Takes, note.channel, note.place),
+        _ => NOWHERE,
     }
 }
 
 /// The first line of the coroutine that this line launched or started, if it did.
-fn begun<'a>(tables: &Tables<'a>, note: &Note<'a>) -> Option<usize> {
-    let begins = match note.verb {
-        Verb::Attach => note.launches() && !note.is_lazy(),
-        Verb::Start => true,
-        _ => false,
-    };
-    if begins {
-        tables.row(note.row).first
+fn begun<'a>(told: &Told<'a>, note: &Note<'a>) -> usize {
+    if matches!(note.verb, Verb::Start) || (note.launches() && !note.is_lazy()) {
+        told.of_row(Fact::First, note.row)
     } else {
-        None
+        NOWHERE
     }
 }
 
 /// Adds an arrow, if both its lines are there.
-fn push(
-    arrows: &mut Vec<Arrow>,
-    from: Option<usize>,
-    to: Option<usize>,
-    look: Look,
-) -> Result<(), AllocError> {
-    if let (Some(from), Some(to)) = (from, to)
-        && from != to
-    {
-        arrows.push(Arrow { from, to, look })?;
+fn add(arrows: &mut Gathered<Arrow>, from: usize, to: usize, look: Look) {
+    if from != NOWHERE && to != NOWHERE && from != to {
+        arrows.add(Arrow { from, to, look });
     }
-    Ok(())
 }
 
 /// Adds the arrows that a line tells of: that of the element that it brought, of the cancellation that it saw, of what resolved the
 /// wait that it placed or woke, and of the coroutine that it began.
-fn push_arrows<'a>(
-    arrows: &mut Vec<Arrow>,
-    notes: &[Note<'a>],
-    tables: &Tables<'a>,
+fn add_arrows<'a>(
+    arrows: &mut Gathered<Arrow>,
+    told: &Told<'a>,
     channels: &Channels<'a>,
-    number: usize,
+    here: usize,
     note: &Note<'a>,
-) -> Result<(), AllocError> {
-    let here = Some(number);
+) {
     match note.verb {
-        Verb::Saw => push(arrows, tables.row(note.row).cancels, here, Look::Cancels),
+        Verb::Saw => {
+            let cancel = told.of_row(Fact::Cancels, note.row);
+            add(arrows, cancel, here, Look::Cancels);
+        }
         Verb::WakeClosed => {
-            let settle = settled_at(notes, tables, note.channel, note.place);
-            push(arrows, here, settle, Look::Joins)
+            let settle = told.settled_at(note.channel, note.place);
+            add(arrows, here, settle, Look::Joins);
         }
-        Verb::Attach | Verb::Start => push(arrows, here, begun(tables, note), Look::Joins),
+        Verb::Attach | Verb::Start => add(arrows, here, begun(told, note), Look::Joins),
         Verb::Offer => {
-            let by = sent_by(tables.place(note.channel, note.place));
-            push(arrows, by, tables.wait(note.wait).settles, Look::Joins)?;
-            push(
-                arrows,
-                here,
-                got(notes, tables, note),
-                channels.look(note.channel),
-            )
+            let settle = told.of_wait(Fact::Settles, note.wait);
+            add(arrows, told.sent_by(note), settle, Look::Joins);
         }
-        _ => push(
-            arrows,
-            here,
-            got(notes, tables, note),
-            channels.look(note.channel),
-        ),
+        _ => {}
     }
+    add(arrows, here, got(told, note), channels.look(note.channel));
 }
 
 /// The arrows of the lines of the books.
 pub(crate) fn arrows_of<'a>(
     alloc: Global,
-    notes: &[Note<'a>],
-    tables: &Tables<'a>,
+    told: &Told<'a>,
     channels: &Channels<'a>,
 ) -> Result<Vec<Arrow>, AllocError> {
-    let mut arrows = Vec::new(alloc);
-    for (number, note) in notes.iter().enumerate() {
-        push_arrows(&mut arrows, notes, tables, channels, number, note)?;
+    let mut arrows = Gathered::new(alloc);
+    for (here, note) in told.notes.iter().enumerate() {
+        add_arrows(&mut arrows, told, channels, here, note);
     }
-    Ok(arrows)
+    arrows.whole()
 }

@@ -7,16 +7,15 @@ ghost use Rattle.std.specs.List.Sorted.{IsNonDecreasingBy, IsPermutation};
 ghost use Rattle.picture_parts.specs.Names.{heading};
 ghost use Rattle.report_picture.specs.Diagrams.{IsDiagramOf, column_text, columns_text, head_text, line_text, lines_text, tag_of};
 
+use crate::document::push_bytes;
 use crate::picture::{Column, Drawn, Picture};
-use picture_parts::heading;
+use picture_parts::{heading, push_decimal, push_step};
 use std::alloc::{AllocError, Global};
 
 fn push_number(alloc: Global, out: &mut Vec<u8>, n: u32) -> Result<(), AllocError>
     ensures { OnOk result (out.new.items ≡ out.old.items ++ decimal n) }
 {
-    let text = format!(in alloc; "{n}")?;
-    out.extend_from_slice(text.as_bytes())?;
-    Ok(())
+    push_decimal(alloc, out, u64::from(n))
 }
 
 fn push_heading(
@@ -28,8 +27,7 @@ fn push_heading(
     ensures { OnOk result (out.new.items ≡ out.old.items ++ heading (map (λ n. n.items) names.now) tag) }
 {
     let text = heading(alloc, names, tag)?;
-    out.extend_from_slice(text.as_slice())?;
-    Ok(())
+    push_bytes(out, text.as_slice())
 }
 
 fn push_column(
@@ -67,6 +65,24 @@ fn push_columns(
     Ok(())
 }
 
+/// The head of a line that concerns another coroutine.
+fn push_arrow(alloc: Global, out: &mut Vec<u8>, tag: u32, other: u32) -> Result<(), AllocError>
+    ensures { OnOk result (out.new.items
+        ≡ out.old.items ++ codes "    c" ++ decimal tag ++ codes "->>c" ++ decimal other ++ codes ": ") }
+{
+    push_step(alloc, out, b"    c", u64::from(tag))?;
+    push_step(alloc, out, b"->>c", u64::from(other))?;
+    push_bytes(out, b": ")
+}
+
+/// The head of a line that is a note of its own coroutine.
+fn push_note(alloc: Global, out: &mut Vec<u8>, tag: u32) -> Result<(), AllocError>
+    ensures { OnOk result (out.new.items ≡ out.old.items ++ codes "    Note over c" ++ decimal tag ++ codes ": ") }
+{
+    push_step(alloc, out, b"    Note over c", u64::from(tag))?;
+    push_bytes(out, b": ")
+}
+
 /// The head of a line: the coroutine that it concerns, and else that the line is a note of its own coroutine.
 fn push_head(
     alloc: Global,
@@ -77,16 +93,8 @@ fn push_head(
     ensures { OnOk result (out.new.items ≡ out.old.items ++ head_text tag target) }
 {
     match target {
-        Some(other) => {
-            let text = format!(in alloc; "    c{tag}->>c{other}: ")?;
-            out.extend_from_slice(text.as_bytes())?;
-            Ok(())
-        }
-        None => {
-            let text = format!(in alloc; "    Note over c{tag}: ")?;
-            out.extend_from_slice(text.as_bytes())?;
-            Ok(())
-        }
+        Some(other) => push_arrow(alloc, out, tag, other),
+        None => push_note(alloc, out, tag),
     }
 }
 
@@ -99,9 +107,8 @@ fn push_line(
     ensures { OnOk result (out.new.items ≡ out.old.items ++ line_text columns.now drawn.now) }
 {
     push_head(alloc, out, tag_of(columns, drawn.column), drawn.target)?;
-    out.extend_from_slice(drawn.line.text)?;
-    out.extend_from_slice(b"\n")?;
-    Ok(())
+    push_bytes(out, drawn.line.text)?;
+    push_bytes(out, b"\n")
 }
 
 fn push_lines(

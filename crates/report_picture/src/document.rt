@@ -1,10 +1,10 @@
 //! A picture as an SVG document.
 
-ghost use Rattle.std.specs.Prelude.{◌≡◌, ◌++◌, ◌+◌, [], map, IfOk, OnOk};
+ghost use Rattle.std.specs.Prelude.{◌≡◌, ◌++◌, ◌+◌, ◌∷◌, [], map, IfOk, OnOk};
 ghost use Rattle.std.specs.Fmt.{decimal};
 ghost use lib.Chars.{codes};
 ghost use Rattle.picture_parts.specs.Names.{heading, with_source};
-ghost use Rattle.report_picture.specs.Elements.{attributes_text, box_node, coroutine_node, document_attributes, fate_node, fate_nodes, fate_nodes_of, head_node, head_nodes, job_heading, job_node, left_of, line_node, mark_node, node_text, nodes_text, path_node, style, style_node, svg_text, text_node, title_of, way_text};
+ghost use Rattle.report_picture.specs.Elements.{attribute_text, attributes_text, box_node, coroutine_node, document_attributes, fate_node, fate_nodes, fate_nodes_of, head_node, head_nodes, job_heading, job_node, left_of, line_node, look_word, mark_node, node_text, nodes_text, path_node, style, style_node, svg_text, text_node, title_of, way_text};
 ghost use Rattle.report_picture.specs.WellFormed.{IsDocument};
 
 use crate::layout::{label_of, row_y};
@@ -15,6 +15,14 @@ use picture_parts::{
 };
 use std::alloc::{AllocError, Global};
 
+/// Adds these bytes.
+pub(crate) fn push_bytes(out: &mut Vec<u8>, bytes: &[u8]) -> Result<(), AllocError>
+    ensures { OnOk result (out.new.items ≡ out.old.items ++ bytes.now) }
+{
+    out.extend_from_slice(bytes)?;
+    Ok(())
+}
+
 // ---- paths
 
 /// Adds a move to a point.
@@ -22,60 +30,62 @@ fn push_move(alloc: Global, out: &mut Vec<u8>, x: u64, y: u64) -> Result<(), All
     ensures { OnOk result (out.new.items ≡ out.old.items ++ codes "M" ++ decimal x ++ codes " " ++ decimal y) }
 {
     push_step(alloc, out, b"M", x)?;
-    push_step(alloc, out, b" ", y)?;
-    Ok(())
+    push_step(alloc, out, b" ", y)
 }
 
-fn down_text(alloc: Global, x: u64, from: u64, to: u64) -> Result<Vec<u8>, AllocError>
-    ensures { IfOk result (λ text. text.items ≡ way_text (Way.Down x from to)) }
+fn push_down(alloc: Global, out: &mut Vec<u8>, x: u64, from: u64, to: u64) -> Result<(), AllocError>
+    ensures { OnOk result (out.new.items ≡ out.old.items ++ way_text (Way.Down x from to)) }
 {
-    let mut out = Vec::new(alloc);
-    push_move(alloc, &mut out, x, from)?;
-    push_step(alloc, &mut out, b"V", to)?;
-    Ok(out)
+    push_move(alloc, out, x, from)?;
+    push_step(alloc, out, b"V", to)
 }
 
-fn bent_text(
+fn push_bent(
     alloc: Global,
+    out: &mut Vec<u8>,
     start: (u64, u64),
     lane: u64,
     end: (u64, u64),
-) -> Result<Vec<u8>, AllocError>
-    ensures { IfOk result (λ text. text.items ≡ way_text (Way.Bent start.0 start.1 lane end.1 end.0)) }
+) -> Result<(), AllocError>
+    ensures { OnOk result (out.new.items ≡ out.old.items ++ way_text (Way.Bent start.0 start.1 lane end.1 end.0)) }
 {
-    let mut out = Vec::new(alloc);
-    push_move(alloc, &mut out, start.0, start.1)?;
-    push_step(alloc, &mut out, b"H", lane)?;
-    push_step(alloc, &mut out, b"V", end.1)?;
-    push_step(alloc, &mut out, b"H", end.0)?;
-    out.extend_from_slice(b"l-6-3m6 3l-6 3")?;
-    Ok(out)
+    push_move(alloc, out, start.0, start.1)?;
+    push_step(alloc, out, b"H", lane)?;
+    push_step(alloc, out, b"V", end.1)?;
+    push_step(alloc, out, b"H", end.0)?;
+    push_bytes(out, b"l-6-3m6 3l-6 3")
 }
 
-fn cross_text(alloc: Global, x: u64, y: u64) -> Result<Vec<u8>, AllocError>
-    ensures { IfOk result (λ text. text.items ≡ way_text (Way.Cross x y)) }
+fn push_cross(alloc: Global, out: &mut Vec<u8>, x: u64, y: u64) -> Result<(), AllocError>
+    ensures { OnOk result (out.new.items ≡ out.old.items ++ way_text (Way.Cross x y)) }
 {
-    let mut out = Vec::new(alloc);
-    push_move(alloc, &mut out, x, y)?;
-    out.extend_from_slice(b"m-4-4l8 8m-8 0l8-8")?;
-    Ok(out)
+    push_move(alloc, out, x, y)?;
+    push_bytes(out, b"m-4-4l8 8m-8 0l8-8")
 }
 
-/// The data of a path.
-fn way_text(alloc: Global, way: Way) -> Result<Vec<u8>, AllocError>
-    ensures { IfOk result (λ text. text.items ≡ way_text way) }
+fn push_way(alloc: Global, out: &mut Vec<u8>, way: Way) -> Result<(), AllocError>
+    ensures { OnOk result (out.new.items ≡ out.old.items ++ way_text way) }
 {
     match way {
-        Way::Down { x, from, to } => down_text(alloc, x, from, to),
+        Way::Down { x, from, to } => push_down(alloc, out, x, from, to),
         Way::Bent {
             x,
             level,
             lane,
             to_y,
             to_x,
-        } => bent_text(alloc, (x, level), lane, (to_x, to_y)),
-        Way::Cross { x, y } => cross_text(alloc, x, y),
+        } => push_bent(alloc, out, (x, level), lane, (to_x, to_y)),
+        Way::Cross { x, y } => push_cross(alloc, out, x, y),
     }
+}
+
+/// The data of a path.
+fn way_text(alloc: Global, way: Way) -> Result<Vec<u8>, AllocError>
+    ensures { IfOk result (λ text. text.items ≡ way_text way) }
+{
+    let mut out = Vec::new(alloc);
+    push_way(alloc, &mut out, way)?;
+    Ok(out)
 }
 
 // ---- elements
@@ -86,6 +96,40 @@ fn title_of(alloc: Global, title: Title) -> Result<Vec<u8>, AllocError>
 {
     let text = with_source(alloc, title.line, title.source)?;
     Ok(text)
+}
+
+fn push_place(alloc: Global, out: &mut Vec<u8>, x: u64, y: u64) -> Result<(), AllocError>
+    ensures { OnOk result (out.new.items
+        ≡ out.old.items ++ attribute_text (codes "x") (decimal x) ++ attribute_text (codes "y") (decimal y)) }
+{
+    push_number(alloc, out, b"x", x)?;
+    push_number(alloc, out, b"y", y)
+}
+
+fn push_size(alloc: Global, out: &mut Vec<u8>, width: u64, height: u64) -> Result<(), AllocError>
+    ensures { OnOk result (out.new.items
+        ≡ out.old.items ++ attribute_text (codes "width") (decimal width) ++ attribute_text (codes "height") (decimal height)) }
+{
+    push_number(alloc, out, b"width", width)?;
+    push_number(alloc, out, b"height", height)
+}
+
+fn push_shown_box(
+    alloc: Global,
+    out: &mut Vec<u8>,
+    place: (u64, u64),
+    size: (u64, u64),
+    look: Look,
+    shown: &[u8],
+) -> Result<(), AllocError>
+    ensures { OnOk result (out.new.items
+        ≡ out.old.items ++ node_text (box_node place.0 place.1 size.0 size.1 look shown.now)) }
+{
+    push_bytes(out, b"<rect")?;
+    push_place(alloc, out, place.0, place.1)?;
+    push_size(alloc, out, size.0, size.1)?;
+    push_attribute(out, b"class", look.word())?;
+    push_rest(out, b"rect", shown, b"")
 }
 
 fn push_box(
@@ -100,14 +144,26 @@ fn push_box(
         ≡ out.old.items ++ node_text (box_node place.0 place.1 size.0 size.1 look (title_of title.entry))) }
 {
     let shown = title_of(alloc, title)?;
-    out.extend_from_slice(b"<rect")?;
-    push_number(alloc, out, b"x", place.0)?;
-    push_number(alloc, out, b"y", place.1)?;
-    push_number(alloc, out, b"width", size.0)?;
-    push_number(alloc, out, b"height", size.1)?;
+    push_shown_box(alloc, out, place, size, look, shown.as_slice())
+}
+
+fn push_shown_path(
+    out: &mut Vec<u8>,
+    data: &[u8],
+    look: Look,
+    shown: &[u8],
+) -> Result<(), AllocError>
+    ensures { OnOk result (out.new.items ≡ out.old.items ++ node_text (record {
+      name = codes "path";
+      attributes = (codes "d", data.now) ∷ ((codes "class", look_word look) ∷ []);
+      title = shown.now;
+      text = [];
+    })) }
+{
+    push_bytes(out, b"<path")?;
+    push_attribute(out, b"d", data)?;
     push_attribute(out, b"class", look.word())?;
-    push_rest(out, b"rect", shown.as_slice(), b"")?;
-    Ok(())
+    push_rest(out, b"path", shown, b"")
 }
 
 fn push_path(
@@ -121,11 +177,7 @@ fn push_path(
 {
     let data = way_text(alloc, way)?;
     let shown = title_of(alloc, title)?;
-    out.extend_from_slice(b"<path")?;
-    push_attribute(out, b"d", data.as_slice())?;
-    push_attribute(out, b"class", look.word())?;
-    push_rest(out, b"path", shown.as_slice(), b"")?;
-    Ok(())
+    push_shown_path(out, data.as_slice(), look, shown.as_slice())
 }
 
 fn push_text(
@@ -138,12 +190,25 @@ fn push_text(
 ) -> Result<(), AllocError>
     ensures { OnOk result (out.new.items ≡ out.old.items ++ node_text (text_node place.0 place.1 look.now text.now title.now)) }
 {
-    out.extend_from_slice(b"<text")?;
-    push_number(alloc, out, b"x", place.0)?;
-    push_number(alloc, out, b"y", place.1)?;
+    push_bytes(out, b"<text")?;
+    push_place(alloc, out, place.0, place.1)?;
     push_attribute(out, b"class", look)?;
-    push_rest(out, b"text", title, text)?;
-    Ok(())
+    push_rest(out, b"text", title, text)
+}
+
+fn push_titled_text(
+    alloc: Global,
+    out: &mut Vec<u8>,
+    place: (u64, u64),
+    look: Look,
+    text: &[u8],
+    title: Title,
+) -> Result<(), AllocError>
+    ensures { OnOk result (out.new.items
+        ≡ out.old.items ++ node_text (text_node place.0 place.1 (look_word look) text.now (title_of title.entry))) }
+{
+    let shown = title_of(alloc, title)?;
+    push_text(alloc, out, place, look.word(), text, shown.as_slice())
 }
 
 fn push_mark(alloc: Global, out: &mut Vec<u8>, mark: &Mark) -> Result<(), AllocError>
@@ -157,32 +222,15 @@ fn push_mark(alloc: Global, out: &mut Vec<u8>, mark: &Mark) -> Result<(), AllocE
             height,
             look,
             title,
-        } => {
-            push_box(alloc, out, (*x, *y), (*width, *height), *look, *title)?;
-            Ok(())
-        }
-        Mark::Path { way, look, title } => {
-            push_path(alloc, out, *way, *look, *title)?;
-            Ok(())
-        }
+        } => push_box(alloc, out, (*x, *y), (*width, *height), *look, *title),
+        Mark::Path { way, look, title } => push_path(alloc, out, *way, *look, *title),
         Mark::Text {
             x,
             y,
             look,
             text,
             title,
-        } => {
-            let shown = title_of(alloc, *title)?;
-            push_text(
-                alloc,
-                out,
-                (*x, *y),
-                look.word(),
-                text.as_slice(),
-                shown.as_slice(),
-            )?;
-            Ok(())
-        }
+        } => push_titled_text(alloc, out, (*x, *y), *look, text.as_slice(), *title),
     }
 }
 
@@ -294,8 +342,7 @@ fn push_head_line(
 ) -> Result<(), AllocError>
     ensures { OnOk result (out.new.items ≡ out.old.items ++ node_text (head_node place.0 place.1 text.now)) }
 {
-    push_text(alloc, out, place, b"head", text, b"")?;
-    Ok(())
+    push_text(alloc, out, place, b"head", text, b"")
 }
 
 /// The Job of a row, as `Job 3`.
@@ -305,6 +352,29 @@ pub(crate) fn job_heading(alloc: Global, row: u32) -> Result<Vec<u8>, AllocError
     let mut text = Vec::new(alloc);
     push_step(alloc, &mut text, b"Job ", u64::from(row))?;
     Ok(text)
+}
+
+fn push_coroutine(
+    alloc: Global,
+    out: &mut Vec<u8>,
+    names: &[Vec<u8>],
+    top: u32,
+    column: Column,
+) -> Result<(), AllocError>
+    ensures { OnOk result (out.new.items
+        ≡ out.old.items ++ node_text (coroutine_node (map (λ n. n.items) names.now) top column)) }
+{
+    let coroutine = heading(alloc, names, column.tag)?;
+    let place = (column.left, u64::from(top));
+    push_head_line(alloc, out, place, coroutine.as_slice())
+}
+
+fn push_job(alloc: Global, out: &mut Vec<u8>, top: u32, column: Column) -> Result<(), AllocError>
+    ensures { OnOk result (out.new.items ≡ out.old.items ++ node_text (job_node top column)) }
+{
+    let job = job_heading(alloc, column.tag)?;
+    let place = (column.left, u64::from(top) + 16);
+    push_head_line(alloc, out, place, job.as_slice())
 }
 
 fn push_head(
@@ -317,12 +387,8 @@ fn push_head(
     ensures { OnOk result (out.new.items
         ≡ out.old.items ++ node_text (coroutine_node (map (λ n. n.items) names.now) top column) ++ node_text (job_node top column)) }
 {
-    let y = u64::from(top);
-    let coroutine = heading(alloc, names, column.tag)?;
-    let job = job_heading(alloc, column.tag)?;
-    push_head_line(alloc, out, (column.left, y), coroutine.as_slice())?;
-    push_head_line(alloc, out, (column.left, y + 16), job.as_slice())?;
-    Ok(())
+    push_coroutine(alloc, out, names, top, column)?;
+    push_job(alloc, out, top, column)
 }
 
 /// The heads of the columns: each coroutine, and the Job that it runs as.
@@ -362,9 +428,8 @@ fn push_style_of(out: &mut Vec<u8>, text: &[u8]) -> Result<(), AllocError>
     ensures { OnOk result (out.new.items
         ≡ out.old.items ++ node_text (record { name = codes "style"; attributes = []; title = []; text = text.now })) }
 {
-    out.extend_from_slice(b"<style")?;
-    push_rest(out, b"style", b"", text)?;
-    Ok(())
+    push_bytes(out, b"<style")?;
+    push_rest(out, b"style", b"", text)
 }
 
 fn push_style(out: &mut Vec<u8>) -> Result<(), AllocError>
@@ -377,12 +442,10 @@ fn push_opening(alloc: Global, out: &mut Vec<u8>, width: u64, height: u64) -> Re
     ensures { OnOk result (out.new.items
         ≡ out.old.items ++ codes "<svg" ++ attributes_text (document_attributes width height) ++ codes ">\n") }
 {
-    out.extend_from_slice(b"<svg")?;
+    push_bytes(out, b"<svg")?;
     push_attribute(out, b"xmlns", b"http://www.w3.org/2000/svg")?;
-    push_number(alloc, out, b"width", width)?;
-    push_number(alloc, out, b"height", height)?;
-    out.extend_from_slice(b">\n")?;
-    Ok(())
+    push_size(alloc, out, width, height)?;
+    push_bytes(out, b">\n")
 }
 
 fn svg_text(alloc: Global, picture: &Picture) -> Result<Vec<u8>, AllocError>

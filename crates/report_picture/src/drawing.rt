@@ -6,22 +6,21 @@ ghost use Rattle.report_picture.specs.Pictures.{StandBeside, all_have_columns, i
 ghost use Rattle.report_picture.specs.Shown.{Shows};
 
 use crate::arranged::{Books, Rows, arrange};
-use crate::arrows::{Arrow, Channels, arrows_of, channels_of};
+use crate::arrows::{Channels, arrows_of, channels_of};
 use crate::columns::{Wanted, all_have_columns, tags_of};
-use crate::fates::{end_in, lost_in, push_crosses};
-use crate::filled::filled;
-use crate::frame::{LEGEND, height_of, push_feet, push_legend, top_of};
-use crate::lanes::{Laid, lanes_of, push_ways};
+use crate::fates::{add_crosses, end_in, lost_in};
+use crate::frame::{LEGEND, add_feet, add_legend, height_of, top_of};
+use crate::lanes::{Laid, Lanes, add_ways, lanes_of};
 use crate::layout::{BAR, columns_of, label_of, row_y, total_width};
-use crate::lives::{push_lives, push_waits};
+use crate::lists::{NOWHERE, at, filled, put};
+use crate::lives::{add_lives, add_waits};
 use crate::looks::Look;
-use crate::marks::{push_box, untitled};
-use crate::notes::{Note, notes_in};
+use crate::marks::{Marks, untitled};
 use crate::picture::{Column, Drawn, Lost, Mark, Picture};
 use crate::placed::part_of;
 use crate::sheet::Sheet;
-use crate::tables::{Tables, tables_of};
 use crate::targets::targets_of;
+use crate::told::told_in;
 use co_base::Memory;
 use picture_parts::{Names, heading};
 use report_reader::{Line, Said};
@@ -36,32 +35,58 @@ pub struct Drawing<'a> {
     pub all: bool,
 }
 
-/// What the lines of the books say.
-#[derive(Drop)]
-pub(crate) struct Told<'a> {
-    pub(crate) notes: Vec<Note<'a>>,
-    pub(crate) tables: Tables<'a>,
-    /// Of each line of the books the other coroutine that it concerns.
-    pub(crate) targets: Vec<Option<u32>>,
-}
-
-pub(crate) fn told_in<'a>(alloc: Global, lines: &[Line<'a>]) -> Result<Told<'a>, AllocError> {
-    let notes = notes_in(alloc, lines)?;
-    let tables = tables_of(alloc, notes.as_slice())?;
-    let targets = targets_of(alloc, notes.as_slice(), &tables)?;
-    Ok(Told {
-        notes,
-        tables,
-        targets,
-    })
-}
-
 /// Makes the width of a column at least this.
 fn widen(widths: &mut Vec<usize>, column: usize, bytes: usize) {
-    if let Some(width) = widths.get_mut(column)
-        && *width < bytes
-    {
-        *width = bytes;
+    let width = at(widths.as_slice(), column, usize::MAX);
+    put(widths, column, width.max(bytes));
+}
+
+/// The width of a column, so that its head fits.
+fn widen_for_head<'a>(
+    alloc: Global,
+    widths: &mut Vec<usize>,
+    sheet: &Sheet<'_, 'a>,
+    column: usize,
+) -> Result<(), AllocError> {
+    let tag = at(sheet.books.tags, column, 0);
+    let head = heading(alloc, sheet.books.names.blocks, tag)?;
+    widen(widths, column, head.len());
+    Ok(())
+}
+
+/// Of each column the width that its head needs.
+fn head_widths<'a>(alloc: Global, sheet: &Sheet<'_, 'a>) -> Result<Vec<usize>, AllocError> {
+    let columns = sheet.books.tags.len();
+    let mut widths = filled(alloc, 14usize, columns)?;
+    for column in 0..columns {
+        widen_for_head(alloc, &mut widths, sheet, column)?;
+    }
+    Ok(widths)
+}
+
+/// The width of the column in which an element ended whose line this is.
+fn widen_for_end<'a>(widths: &mut Vec<usize>, sheet: &Sheet<'_, 'a>, line: &'a [u8]) {
+    let number = end_in(sheet, line);
+    if number != NOWHERE {
+        let before = label_of(sheet.text_at(number)).len();
+        let bytes = before.saturating_add(line.len());
+        widen(widths, sheet.column_at(number), bytes);
+    }
+}
+
+/// The widths of the columns for the texts of these lines.
+fn widen_for_lines(widths: &mut Vec<usize>, drawn: &[Drawn]) {
+    for d in drawn {
+        widen(widths, d.column, label_of(d.line.text).len());
+    }
+}
+
+/// The widths of the columns for the elements that were not received.
+fn widen_for_ends<'a>(widths: &mut Vec<usize>, sheet: &Sheet<'_, 'a>, lines: &[Line<'a>]) {
+    for line in lines {
+        if matches!(line.said, Said::Element) {
+            widen_for_end(widths, sheet, line.text);
+        }
     }
 }
 
@@ -72,30 +97,10 @@ fn widths_of<'a>(
     drawn: &[Drawn],
     lines: &[Line<'a>],
 ) -> Result<Vec<usize>, AllocError> {
-    let mut widths = filled(alloc, 14usize, sheet.books.tags.len())?;
-    for (column, tag) in sheet.books.tags.iter().enumerate() {
-        let head = heading(alloc, sheet.books.names.blocks, *tag)?;
-        widen(&mut widths, column, head.len());
-    }
-    for d in drawn {
-        widen(&mut widths, d.column, label_of(d.line.text).len());
-    }
-    for line in lines {
-        if line.said == Said::Element {
-            widen_for(&mut widths, sheet, line.text);
-        }
-    }
+    let mut widths = head_widths(alloc, sheet)?;
+    widen_for_lines(&mut widths, drawn);
+    widen_for_ends(&mut widths, sheet, lines);
     Ok(widths)
-}
-
-/// The width of the column in which an element ended whose line this is.
-fn widen_for<'a>(widths: &mut Vec<usize>, sheet: &Sheet<'_, 'a>, line: &'a [u8]) {
-    if let Some(number) = end_in(sheet, line)
-        && let Some(column) = sheet.column_at(number)
-    {
-        let before = label_of(sheet.text_at(number)).len();
-        widen(widths, column, before.saturating_add(line.len()));
-    }
 }
 
 /// The columns of these coroutines, with so many lanes and of these widths, and how wide the picture is.
@@ -103,30 +108,29 @@ fn columns_for(
     alloc: Global,
     tags: &[u32],
     lanes: &[u32],
-    widths: Vec<usize>,
+    widths: &[usize],
 ) -> Result<(Vec<Column>, u64), Memory>
     ensures tags { IfOk result (λ found. map (λ c. c.tag) found.0.items ≡ tags.now) }
     ensures beside { IfOk result (λ found. StandBeside 0 found.0.items) }
 {
-    let columns = columns_of(alloc, tags, lanes, widths.as_slice())?;
-    let width = total_width(columns.as_slice(), widths.as_slice()).max(LEGEND);
+    let columns = columns_of(alloc, tags, lanes, widths)?;
+    let width = total_width(columns.as_slice(), widths).max(LEGEND);
     Ok((columns, width))
 }
 
+/// Where a line stands in the life of its coroutine.
+fn add_tick<'a>(marks: &mut Marks<'a>, sheet: &Sheet<'_, 'a>, drawn: &Drawn<'a>) {
+    let row = drawn.row.saturating_sub(sheet.first);
+    let y = row_y(sheet.top, row).saturating_sub(1);
+    let place = (sheet.left_of(drawn.column), y);
+    marks.add_box(place, (BAR, 2), Look::Tick, untitled());
+}
+
 /// Where each line stands in the life of its coroutine.
-fn push_ticks<'a>(
-    marks: &mut Vec<Mark<'a>>,
-    sheet: &Sheet<'_, 'a>,
-    drawn: &[Drawn<'a>],
-) -> Result<(), AllocError> {
+fn add_ticks<'a>(marks: &mut Marks<'a>, sheet: &Sheet<'_, 'a>, drawn: &[Drawn<'a>]) {
     for d in drawn {
-        if let Some(column) = sheet.columns.get(d.column) {
-            let row = d.row.saturating_sub(sheet.first);
-            let place = (column.left, row_y(sheet.top, row).saturating_sub(1));
-            push_box(marks, place, (BAR, 2), Look::Tick, untitled())?;
-        }
+        add_tick(marks, sheet, d);
     }
-    Ok(())
 }
 
 /// What is drawn before the lines.
@@ -137,37 +141,36 @@ struct Layers<'s, 'a> {
     order: &'s [usize],
     drawn: &'s [Drawn<'a>],
     laid: &'s [Laid],
-    lost: &'s [Lost<'a>],
-    lines: &'s [Line<'a>],
 }
 
-/// What is drawn before the lines of a picture of this size, and below them.
-fn push_marks<'a>(
-    alloc: Global,
-    marks: &mut Vec<Mark<'a>>,
-    size: (u64, u64),
-    sheet: &Sheet<'_, 'a>,
-    layers: Layers<'_, 'a>,
-) -> Result<(), AllocError> {
-    push_box(marks, (0, 0), size, Look::Paper, untitled())?;
-    push_legend(alloc, marks, layers.channels)?;
-    push_lives(alloc, marks, sheet, layers.order)?;
-    push_waits(marks, sheet)?;
-    push_ticks(marks, sheet, layers.drawn)?;
-    push_ways(marks, sheet, layers.laid)?;
-    push_crosses(marks, layers.lost)?;
-    push_feet(alloc, marks, sheet, layers.lines)
-}
-
+/// What is drawn before the lines on the paper of a picture of this size, and below them.
 fn marks_of<'a>(
     alloc: Global,
     size: (u64, u64),
     sheet: &Sheet<'_, 'a>,
     layers: Layers<'_, 'a>,
+    lost: &[Lost<'a>],
+    lines: &[Line<'a>],
 ) -> Result<Vec<Mark<'a>>, AllocError> {
-    let mut marks = Vec::new(alloc);
-    push_marks(alloc, &mut marks, size, sheet, layers)?;
-    Ok(marks)
+    let mut marks = Marks::new(alloc);
+    marks.add_box((0, 0), size, Look::Paper, untitled());
+    add_layers(alloc, &mut marks, sheet, layers);
+    add_crosses(&mut marks, lost);
+    add_feet(&mut marks, sheet, lines);
+    marks.whole()
+}
+
+fn add_layers<'a>(
+    alloc: Global,
+    marks: &mut Marks<'a>,
+    sheet: &Sheet<'_, 'a>,
+    layers: Layers<'_, 'a>,
+) {
+    add_legend(marks, layers.channels);
+    add_lives(alloc, marks, sheet, layers.order);
+    add_waits(marks, sheet);
+    add_ticks(marks, sheet, layers.drawn);
+    add_ways(marks, sheet, layers.laid);
 }
 
 /// The picture of a report: a column for each coroutine asked for that has a line in its book, the first 64 of them. The lines are in an
@@ -185,13 +188,13 @@ pub fn draw<'a>(
 {
     let tags = tags_of(alloc, wanted, lines)?;
     let told = told_in(alloc, lines)?;
+    let targets = targets_of(alloc, &told)?;
     let books = Books {
         lines,
-        notes: told.notes.as_slice(),
-        tables: &told.tables,
+        told: &told,
         wanted,
         tags: tags.as_slice(),
-        targets: told.targets.as_slice(),
+        targets: targets.as_slice(),
         names,
     };
     draw_books(alloc, books)
@@ -215,17 +218,31 @@ fn draw_books<'a>(alloc: Global, books: Books<'_, 'a>) -> Result<Drawing<'a>, Me
     })
 }
 
-/// The arrows of the lines of the books, and the channels whose elements have some.
+/// The channels whose elements have arrows, and the arrows that are drawn.
 #[derive(Drop)]
 struct Joined<'a> {
     channels: Channels<'a>,
-    arrows: Vec<Arrow>,
+    lanes: Lanes,
 }
 
-fn arrows_in<'a>(alloc: Global, books: Books<'_, 'a>) -> Result<Joined<'a>, AllocError> {
-    let channels = channels_of(alloc, books.notes, books.tables)?;
-    let arrows = arrows_of(alloc, books.notes, books.tables, &channels)?;
-    Ok(Joined { channels, arrows })
+fn lanes_in<'a>(
+    alloc: Global,
+    plan: &Sheet<'_, 'a>,
+    channels: &Channels<'a>,
+) -> Result<Lanes, AllocError> {
+    let arrows = arrows_of(alloc, plan.books.told, channels)?;
+    lanes_of(alloc, plan, arrows.as_slice())
+}
+
+fn joined_in<'a>(
+    alloc: Global,
+    books: Books<'_, 'a>,
+    rows: &Rows,
+) -> Result<Joined<'a>, AllocError> {
+    let channels = channels_of(alloc, books.told)?;
+    let plan = plan_of(books, rows, channels.names.len());
+    let lanes = lanes_in(alloc, &plan, &channels)?;
+    Ok(Joined { channels, lanes })
 }
 
 /// What the marks are made of, but for the columns: the rows that are asked for, below the legend of so many channels.
@@ -239,6 +256,55 @@ fn plan_of<'s, 'a>(books: Books<'s, 'a>, rows: &'s Rows, channels: usize) -> She
         until: rows.end.min(books.wanted.to).max(first),
         top: top_of(channels),
     }
+}
+
+/// The columns of these lines, with so many lanes, and how wide the picture is.
+fn columns_in<'a>(
+    alloc: Global,
+    plan: &Sheet<'_, 'a>,
+    books: Books<'_, 'a>,
+    drawn: &[Drawn],
+    lanes: &[u32],
+) -> Result<(Vec<Column>, u64), Memory>
+    ensures tags { IfOk result (λ found. map (λ c. c.tag) found.0.items ≡ books.entry.tags.now) }
+    ensures beside { IfOk result (λ found. StandBeside 0 found.0.items) }
+{
+    let widths = widths_of(alloc, plan, drawn, books.lines)?;
+    columns_for(alloc, books.tags, lanes, widths.as_slice())
+}
+
+/// What is drawn besides the lines, and how high the picture is.
+#[derive(Drop)]
+struct Around<'a> {
+    marks: Vec<Mark<'a>>,
+    lost: Vec<Lost<'a>>,
+    height: u64,
+}
+
+fn around_of<'a>(
+    alloc: Global,
+    sheet: &Sheet<'_, 'a>,
+    width: u64,
+    layers: Layers<'_, 'a>,
+    lines: &[Line<'a>],
+) -> Result<Around<'a>, AllocError>
+    ensures { IfOk result (λ around. map (λ e. told e.line) around.lost.items ≡ filter is_element (told_lines lines.now)) }
+{
+    let lost = lost_in(alloc, sheet, lines)?;
+    let height = height_of(sheet, lines);
+    let marks = marks_of(
+        alloc,
+        (width, height),
+        sheet,
+        layers,
+        lost.as_slice(),
+        lines,
+    )?;
+    Ok(Around {
+        marks,
+        lost,
+        height,
+    })
 }
 
 /// The picture of these lines, in these rows.
@@ -255,27 +321,43 @@ fn picture_of<'a>(
     ensures fates { IfOk result (λ picture.
         map (λ e. told e.line) picture.lost.items ≡ filter is_element (told_lines books.entry.lines.now)) }
 {
+    let joined = joined_in(alloc, books, rows)?;
+    joined_picture(alloc, books, rows, &joined, drawn)
+}
+
+fn joined_picture<'a>(
+    alloc: Global,
+    books: Books<'_, 'a>,
+    rows: &Rows,
+    joined: &Joined<'a>,
+    drawn: &[Drawn<'a>],
+) -> Result<Picture<'a>, Memory>
+    ensures names { IfOk result (λ picture. picture.names.now ≡ books.entry.names.blocks.now) }
+    ensures tags { IfOk result (λ picture. map (λ c. c.tag) picture.columns.items ≡ books.entry.tags.now) }
+    ensures beside { IfOk result (λ picture. StandBeside 0 picture.columns.items) }
+    ensures part { IfOk result (λ picture. picture.lines.items ≡ filter (is_within books.entry.wanted) drawn.now) }
+    ensures fates { IfOk result (λ picture.
+        map (λ e. told e.line) picture.lost.items ≡ filter is_element (told_lines books.entry.lines.now)) }
+{
     let lines = part_of(alloc, books.wanted, drawn)?;
-    let told = arrows_in(alloc, books)?;
-    let plan = plan_of(books, rows, told.channels.names.len());
-    let lanes = lanes_of(alloc, &plan, told.arrows.as_slice())?;
-    let widths = widths_of(alloc, &plan, lines.as_slice(), books.lines)?;
-    let (columns, width) = columns_for(alloc, books.tags, lanes.counts.as_slice(), widths)?;
+    let plan = plan_of(books, rows, joined.channels.names.len());
+    let lanes = joined.lanes.counts.as_slice();
+    let (columns, width) = columns_in(alloc, &plan, books, lines.as_slice(), lanes)?;
     let sheet = Sheet {
         columns: columns.as_slice(),
         ..plan
     };
-    let lost = lost_in(alloc, &sheet, books.lines)?;
-    let height = height_of(&sheet, books.lines);
     let layers = Layers {
-        channels: told.channels.names.as_slice(),
+        channels: joined.channels.names.as_slice(),
         order: rows.numbers.as_slice(),
         drawn: lines.as_slice(),
-        laid: lanes.laid.as_slice(),
-        lost: lost.as_slice(),
-        lines: books.lines,
+        laid: joined.lanes.laid.as_slice(),
     };
-    let marks = marks_of(alloc, (width, height), &sheet, layers)?;
+    let Around {
+        marks,
+        lost,
+        height,
+    } = around_of(alloc, &sheet, width, layers, books.lines)?;
     Ok(Picture {
         width,
         height,

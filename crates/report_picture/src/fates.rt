@@ -4,48 +4,54 @@ ghost use Rattle.std.specs.Prelude.{◌≡◌, ◌++◌, ◌∷◌, [], IfOk, On
 ghost use Rattle.report_reader.specs.Reading.{told, told_lines};
 ghost use Rattle.report_picture.specs.Pictures.{is_element};
 
-use crate::arrows::settled_at;
 use crate::layout::{INDENT, label_of, text_width};
+use crate::lists::NOWHERE;
 use crate::looks::Look;
-use crate::marks::{push_path, shown};
-use crate::picture::{Lost, Mark, Spot, Way};
+use crate::marks::{Marks, shown};
+use crate::notes::Fact;
+use crate::picture::{Lost, Spot, Way};
 use crate::sheet::Sheet;
+use crate::told::first_of;
 use picture_parts::word;
 use report_reader::{Line, Said};
 use std::alloc::{AllocError, Global};
 
 /// The line at which an element ended that was not received.
-fn end_of<'a>(sheet: &Sheet<'_, 'a>, channel: &'a [u8], place: &'a [u8]) -> Option<usize> {
-    let books = sheet.books;
-    let of = books.tables.place(channel, place);
-    match (
-        of.gives_up,
-        settled_at(books.notes, books.tables, channel, place),
-    ) {
-        (Some(number), _) | (None, Some(number)) => Some(number),
-        (None, None) => of.brings,
-    }
+fn end_of<'a>(sheet: &Sheet<'_, 'a>, channel: &'a [u8], place: &'a [u8]) -> usize {
+    let told = sheet.books.told;
+    let gives_up = told.at_place(Fact::GivesUp, channel, place);
+    let brings = told.at_place(Fact::Brings, channel, place);
+    first_of(gives_up, first_of(told.settled_at(channel, place), brings))
 }
 
 /// The line at which the element of this line ended, if that is in the picture.
-pub(crate) fn end_in<'a>(sheet: &Sheet<'_, 'a>, line: &'a [u8]) -> Option<usize> {
-    let number = end_of(sheet, word(1, line), word(2, line))?;
-    if sheet.is_seen(number) && sheet.column_at(number).is_some() {
-        Some(number)
+pub(crate) fn end_in<'a>(sheet: &Sheet<'_, 'a>, line: &'a [u8]) -> usize {
+    let number = end_of(sheet, word(1, line), word(2, line));
+    if sheet.is_seen(number) && sheet.column_at(number) != NOWHERE {
+        number
     } else {
-        None
+        NOWHERE
     }
 }
 
 /// Where the label of an element is whose line this is: behind the text of the line at which the element ended.
-fn spot_of<'a>(sheet: &Sheet<'_, 'a>, line: Line<'a>) -> Option<Spot> {
-    let number = end_in(sheet, line.text)?;
-    let column = sheet.columns.get(sheet.column_at(number)?)?;
+fn spot_of<'a>(sheet: &Sheet<'_, 'a>, line: &'a [u8]) -> Option<Spot> {
+    let number = end_in(sheet, line);
+    if number == NOWHERE {
+        None
+    } else {
+        Some(spot_behind(sheet, number))
+    }
+}
+
+/// Where a label is behind the text of a line.
+fn spot_behind<'a>(sheet: &Sheet<'_, 'a>, number: usize) -> Spot {
+    let text = sheet.texts_of(sheet.column_at(number));
     let width = text_width(label_of(sheet.text_at(number)).len());
-    Some(Spot {
-        x: column.text.saturating_add(width).saturating_add(INDENT),
+    Spot {
+        x: text.saturating_add(width).saturating_add(INDENT),
         y: sheet.y(number).saturating_add(4),
-    })
+    }
 }
 
 /// Adds the end of the element of a line, if it is one of an element.
@@ -59,7 +65,7 @@ fn push_lost<'a>(
 {
     match line.said {
         Said::Element => {
-            let at = spot_of(sheet, line);
+            let at = spot_of(sheet, line.text);
             lost.push(Lost { at, line })?;
             Ok(())
         }
@@ -85,19 +91,20 @@ pub(crate) fn lost_in<'a>(
     Ok(lost)
 }
 
-/// A cross before each label.
-pub(crate) fn push_crosses<'a>(
-    marks: &mut Vec<Mark<'a>>,
-    lost: &[Lost<'a>],
-) -> Result<(), AllocError> {
-    for one in lost {
-        if let Some(spot) = one.at {
-            let way = Way::Cross {
-                x: spot.x.saturating_sub(8),
-                y: spot.y.saturating_sub(4),
-            };
-            push_path(marks, way, Look::Lost, shown(one.line.text))?;
-        }
+/// A cross before the label of an end that is in the picture.
+fn add_cross<'a>(marks: &mut Marks<'a>, one: &Lost<'a>) {
+    if let Some(spot) = one.at {
+        let way = Way::Cross {
+            x: spot.x.saturating_sub(8),
+            y: spot.y.saturating_sub(4),
+        };
+        marks.add_path(way, Look::Lost, shown(one.line.text));
     }
-    Ok(())
+}
+
+/// A cross before each label.
+pub(crate) fn add_crosses<'a>(marks: &mut Marks<'a>, lost: &[Lost<'a>]) {
+    for one in lost {
+        add_cross(marks, one);
+    }
 }

@@ -2,13 +2,13 @@
 
 use crate::arrows::shade_of;
 use crate::layout::BAR;
+use crate::lists::{NOWHERE, at};
 use crate::lives::hangs;
 use crate::looks::{Look, State};
-use crate::marks::{push_box, push_path, push_text, shown, untitled};
-use crate::picture::{Mark, Way};
+use crate::marks::{Marks, shown, untitled};
+use crate::picture::Way;
 use crate::sheet::Sheet;
 use report_reader::{Line, Said, cut_at};
-use std::alloc::{AllocError, Global};
 
 /// How wide an entry of the legend is, and how many there are in a row.
 const ENTRY: u64 = 190;
@@ -33,160 +33,99 @@ const LEGEND_ENTRIES: [(Look, &[u8]); 12] = [
     (Look::Joins, b"what brought it about"),
 ];
 
+const NO_ENTRY: (Look, &[u8]) = (Look::Label, b"");
+
 /// Where the heads begin below the legend, with so many channels.
 pub(crate) fn top_of(channels: usize) -> u32 {
     let rows = (channels.saturating_add(LEGEND_ENTRIES.len() + ENTRIES - 1)) / ENTRIES;
-    match u32::try_from(rows) {
-        Ok(rows) => rows.saturating_mul(24).saturating_add(32),
-        Err(_) => u32::MAX,
-    }
+    let rows = u32::try_from(rows).unwrap_or(u32::MAX);
+    rows.saturating_mul(24).saturating_add(32)
 }
 
 /// The legend: how each state, a wait and the arrows look.
-pub(crate) fn push_legend<'a>(
-    alloc: Global,
-    marks: &mut Vec<Mark<'a>>,
-    channels: &[&'a [u8]],
-) -> Result<(), AllocError> {
-    push_entries(alloc, marks, &LEGEND_ENTRIES)?;
-    for (number, name) in channels.iter().enumerate() {
-        let at = number.saturating_add(LEGEND_ENTRIES.len());
-        let mut text = Vec::from_slice(alloc, b"channel ")?;
-        text.extend_from_slice(*name)?;
-        push_entry(marks, at, Look::Brings(shade_of(number)), text)?;
+pub(crate) fn add_legend<'a>(marks: &mut Marks<'a>, channels: &[&'a [u8]]) {
+    for number in 0..LEGEND_ENTRIES.len() {
+        let (look, name) = at(&LEGEND_ENTRIES, number, NO_ENTRY);
+        add_entry(marks, number, look, (name, b""));
     }
-    Ok(())
+    for (number, name) in channels.iter().enumerate() {
+        add_channel(marks, number, *name);
+    }
 }
 
-fn push_entries<'a>(
-    alloc: Global,
-    marks: &mut Vec<Mark<'a>>,
-    entries: &[(Look, &[u8])],
-) -> Result<(), AllocError> {
-    for (number, (look, name)) in entries.iter().enumerate() {
-        let text = Vec::from_slice(alloc, *name)?;
-        push_entry(marks, number, *look, text)?;
-    }
-    Ok(())
+/// The entry of the channel with this number, behind the others.
+fn add_channel<'a>(marks: &mut Marks<'a>, number: usize, name: &'a [u8]) {
+    let place = number.saturating_add(LEGEND_ENTRIES.len());
+    let look = Look::Brings(shade_of(number));
+    add_entry(marks, place, look, (b"channel ", name));
 }
 
 /// An entry, by its number among all.
-fn push_entry<'a>(
-    marks: &mut Vec<Mark<'a>>,
-    number: usize,
-    look: Look,
-    text: Vec<u8>,
-) -> Result<(), AllocError> {
-    let x = ((number % ENTRIES) as u64)
-        .saturating_mul(ENTRY)
-        .saturating_add(20);
-    let y = ((number / ENTRIES) as u64)
-        .saturating_mul(24)
-        .saturating_add(24);
-    push_sample(marks, x, y, look)?;
-    push_text(
-        marks,
-        (x.saturating_add(BAR + 8), y),
-        Look::Label,
-        text,
-        untitled(),
-    )
+fn add_entry<'a>(marks: &mut Marks<'a>, number: usize, look: Look, texts: (&[u8], &[u8])) {
+    let column = (number % ENTRIES) as u64;
+    let row = (number / ENTRIES) as u64;
+    let x = column.saturating_mul(ENTRY).saturating_add(20);
+    let y = row.saturating_mul(24).saturating_add(24);
+    add_sample(marks, x, y, look);
+    let place = (x.saturating_add(BAR + 8), y);
+    marks.add_text(place, Look::Label, texts, untitled());
 }
 
-fn push_sample<'a>(
-    marks: &mut Vec<Mark<'a>>,
-    x: u64,
-    y: u64,
-    look: Look,
-) -> Result<(), AllocError> {
-    let middle = y.saturating_sub(4);
-    let center = x.saturating_add(BAR / 2);
+fn add_sample<'a>(marks: &mut Marks<'a>, x: u64, y: u64, look: Look) {
     let top = y.saturating_sub(12);
     match look {
-        Look::Life(_) => push_box(marks, (x, top), (BAR, 16), look, untitled()),
-        Look::Past => push_box(
-            marks,
-            (center.saturating_sub(1), top),
-            (2, 16),
-            look,
-            untitled(),
-        ),
-        Look::Brings(_) | Look::Cancels | Look::Joins => push_sample_way(marks, x, middle, look),
-        Look::Lost => {
-            let way = Way::Cross {
-                x: center,
-                y: middle,
-            };
-            push_path(marks, way, look, untitled())
+        Look::Life(_) => marks.add_box((x, top), (BAR, 16), look, untitled()),
+        Look::Past => {
+            let middle = x.saturating_add(BAR / 2 - 1);
+            marks.add_box((middle, top), (2, 16), look, untitled());
         }
-        _ => {
-            let way = Way::Down {
-                x: center,
-                from: top,
-                to: y.saturating_add(4),
-            };
-            push_path(marks, way, look, untitled())
-        }
+        _ => marks.add_path(sample_way(x, y, look), look, untitled()),
     }
 }
 
-/// An arrow to the right.
-fn push_sample_way<'a>(
-    marks: &mut Vec<Mark<'a>>,
-    x: u64,
-    y: u64,
-    look: Look,
-) -> Result<(), AllocError> {
-    let way = Way::Bent {
-        x: x.saturating_sub(14),
-        level: y,
-        lane: x,
-        to_y: y,
-        to_x: x.saturating_add(BAR + 2),
-    };
-    push_path(marks, way, look, untitled())
+/// An arrow to the right, a cross, or a stretch down.
+fn sample_way(x: u64, y: u64, look: Look) -> Way {
+    let middle = y.saturating_sub(4);
+    let center = x.saturating_add(BAR / 2);
+    match look {
+        Look::Brings(_) | Look::Cancels | Look::Joins => Way::Bent {
+            x: x.saturating_sub(14),
+            level: middle,
+            lane: x,
+            to_y: middle,
+            to_x: x.saturating_add(BAR + 2),
+        },
+        Look::Lost => Way::Cross {
+            x: center,
+            y: middle,
+        },
+        _ => Way::Down {
+            x: center,
+            from: y.saturating_sub(12),
+            to: y.saturating_add(4),
+        },
+    }
 }
 
 /// What is said of a Job behind its row.
 fn said_of_job(text: &[u8]) -> &[u8] {
-    match cut_at(b' ', text) {
-        (_, Some(rest)) => match cut_at(b' ', rest) {
-            (_, Some(said)) => said,
-            (_, None) => rest,
-        },
-        (_, None) => text,
-    }
+    behind_word(behind_word(text))
 }
 
-/// What stands at the foot of a column: what is said of its Job, and that its coroutine waits, if it does.
-fn foot_of(alloc: Global, line: &[u8], hangs: bool) -> Result<Vec<u8>, AllocError> {
-    let mut text = Vec::from_slice(alloc, said_of_job(line))?;
-    if hangs {
-        text.extend_from_slice(b", waits")?;
-    }
-    Ok(text)
+/// What stands behind the first word of a text, if that is not its only one.
+fn behind_word(text: &[u8]) -> &[u8] {
+    let (_word, rest) = cut_at(b' ', text);
+    rest.unwrap_or(text)
 }
 
-/// The foot of a column: how its Job ended, or how far it is. A Job without a column has a line of its own.
-fn push_foot<'a>(
-    alloc: Global,
-    marks: &mut Vec<Mark<'a>>,
-    sheet: &Sheet<'_, 'a>,
-    row: u32,
-    y: u64,
-    line: &'a [u8],
-) -> Result<(), AllocError> {
-    match sheet.left(row) {
-        Some(left) => {
-            let hangs = hangs(sheet, row);
-            let look = if hangs { Look::Hangs } else { Look::Foot };
-            let text = foot_of(alloc, line, hangs)?;
-            push_text(marks, (left, feet_y(sheet)), look, text, shown(line))
-        }
-        None => {
-            let said = Vec::from_slice(alloc, line)?;
-            push_text(marks, (36, y), Look::Label, said, shown(line))
-        }
+/// The foot of a column: how its Job ended, or how far it is, and that its coroutine waits, if it does.
+fn add_foot<'a>(marks: &mut Marks<'a>, sheet: &Sheet<'_, 'a>, row: u32, line: &'a [u8]) {
+    let place = (sheet.left_of(sheet.column(row)), feet_y(sheet));
+    let said = said_of_job(line);
+    if hangs(sheet, row) {
+        marks.add_text(place, Look::Hangs, (said, b", waits"), shown(line));
+    } else {
+        marks.add_text(place, Look::Foot, (said, b""), shown(line));
     }
 }
 
@@ -200,11 +139,11 @@ fn below_feet(sheet: &Sheet) -> u64 {
     feet_y(sheet).saturating_add(24)
 }
 
-/// Where what is below the Job of this row is, if that is here.
-fn below_job(sheet: &Sheet, row: u32, y: u64) -> u64 {
-    match sheet.left(row) {
-        Some(_) => y,
-        None => y.saturating_add(17),
+/// Where what is below the Job of this line is, if that is here; where it is else.
+fn below_job(sheet: &Sheet, said: Said, y: u64) -> u64 {
+    match said {
+        Said::Job(row) if sheet.column(row) == NOWHERE => y.saturating_add(17),
+        _ => y,
     }
 }
 
@@ -212,26 +151,27 @@ fn below_job(sheet: &Sheet, row: u32, y: u64) -> u64 {
 pub(crate) fn height_of(sheet: &Sheet, lines: &[Line]) -> u64 {
     let mut y = below_feet(sheet);
     for line in lines {
-        if let Said::Job(row) = line.said {
-            y = below_job(sheet, row, y);
-        }
+        y = below_job(sheet, line.said, y);
     }
     y
 }
 
-/// The feet of the columns: how each Job ended, or how far it is. The Jobs without a column are below.
-pub(crate) fn push_feet<'a>(
-    alloc: Global,
-    marks: &mut Vec<Mark<'a>>,
-    sheet: &Sheet<'_, 'a>,
-    lines: &[Line<'a>],
-) -> Result<(), AllocError> {
-    let mut y = below_feet(sheet);
-    for line in lines {
-        if let Said::Job(row) = line.said {
-            push_foot(alloc, marks, sheet, row, y, line.text)?;
-            y = below_job(sheet, row, y);
+/// The foot of a line on a Job: that of its column, and of a Job without one here.
+fn add_job<'a>(marks: &mut Marks<'a>, sheet: &Sheet<'_, 'a>, line: &Line<'a>, y: u64) {
+    if let Said::Job(row) = line.said {
+        if sheet.column(row) == NOWHERE {
+            marks.add_text((36, y), Look::Label, (line.text, b""), shown(line.text));
+        } else {
+            add_foot(marks, sheet, row, line.text);
         }
     }
-    Ok(())
+}
+
+/// The feet of the columns: how each Job ended, or how far it is. The Jobs without a column are below.
+pub(crate) fn add_feet<'a>(marks: &mut Marks<'a>, sheet: &Sheet<'_, 'a>, lines: &[Line<'a>]) {
+    let mut y = below_feet(sheet);
+    for line in lines {
+        add_job(marks, sheet, line, y);
+        y = below_job(sheet, line.said, y);
+    }
 }

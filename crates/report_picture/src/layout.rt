@@ -4,6 +4,7 @@ ghost use Rattle.std.specs.Prelude.{◌≡◌, ◌≤◌, ◌<◌, ◌+◌, ◌+
 ghost use Rattle.report_picture.specs.Elements.{label_of, rest_of, row_y};
 ghost use Rattle.report_picture.specs.Pictures.{StandBeside, last_text};
 
+use crate::lists::at;
 use crate::picture::Column;
 use co_base::Memory;
 use report_reader::cut_at;
@@ -109,7 +110,7 @@ pub(crate) fn columns_of(
     let mut rest = tags;
     let mut i = 0usize;
     while let [tag, more @ ..] = rest {
-        let text = push_column(&mut columns, *tag, lanes_at(lanes, i), edge)?;
+        let text = push_column(&mut columns, *tag, at(lanes, i, 0), edge)?;
         edge = further(text, width_at(widths, i))?;
         i = i.saturating_add(1);
         rest = more;
@@ -117,20 +118,9 @@ pub(crate) fn columns_of(
     Ok(columns)
 }
 
-/// How many lanes a column has.
-fn lanes_at(lanes: &[u32], i: usize) -> u32 {
-    match lanes.get(i) {
-        Some(lanes) => *lanes,
-        None => 0,
-    }
-}
-
 /// How wide the texts of a column are.
 fn width_at(widths: &[usize], i: usize) -> u64 {
-    match widths.get(i) {
-        Some(bytes) => text_width(*bytes),
-        None => 0,
-    }
+    text_width(at(widths, i, 0))
 }
 
 /// How wide the columns are together.

@@ -11,7 +11,7 @@
 //! In which order:
 //!
 //! - `notes`: what the lines of the books say.
-//! - `tables`: where they say what of a place, a wait, a channel and a row.
+//! - `told`: where they say what of a place, a wait, a channel and a row.
 //! - `causes`: which line stands below which other.
 //! - `order`: an order of the lines.
 //! - `sources`: whether each line stands below what it presupposes.
@@ -24,7 +24,6 @@
 //! - `layout`: where rows, columns and texts are.
 //! - `sheet`: what the marks are made of.
 //! - `marks`: marks, added one by one.
-//! - `filled`: vectors of one value.
 //! - `lives`: the lives of the coroutines, and their waits.
 //! - `arrows`: the arrows of elements and of cancellations, and from what brought a line about.
 //! - `lanes`: where arrows go down.
@@ -40,6 +39,10 @@
 //!
 //! - `trace`: the trace of a report.
 //! - `events`: its text, in the trace event format.
+//!
+//! Below all of them:
+//!
+//! - `lists`: lists, read and written at a place, and gathered, and numbers for keys.
 #![tactic(auto)]
 
 mod arranged;
@@ -51,10 +54,10 @@ mod document;
 mod drawing;
 mod events;
 mod fates;
-mod filled;
 mod frame;
 mod lanes;
 mod layout;
+mod lists;
 mod lives;
 mod looks;
 mod marks;
@@ -65,8 +68,8 @@ mod placed;
 mod presumed;
 mod sheet;
 mod sources;
-mod tables;
 mod targets;
+mod told;
 mod trace;
 
 pub use columns::Wanted;

@@ -1,8 +1,9 @@
 //! Marks, added one by one.
 
+use crate::lists::Gathered;
 use crate::looks::Look;
 use crate::picture::{Mark, Title, Way};
-use std::alloc::AllocError;
+use std::alloc::{AllocError, Global};
 
 /// That of a mark of which nothing is shown.
 pub(crate) fn untitled<'a>() -> Title<'a> {
@@ -14,47 +15,77 @@ pub(crate) fn shown<'a>(line: &'a [u8]) -> Title<'a> {
     Title { line, source: b"" }
 }
 
-pub(crate) fn push_box<'a>(
-    marks: &mut Vec<Mark<'a>>,
-    place: (u64, u64),
-    size: (u64, u64),
-    look: Look,
-    title: Title<'a>,
-) -> Result<(), AllocError> {
-    marks.push(Mark::Box {
-        x: place.0,
-        y: place.1,
-        width: size.0,
-        height: size.1,
-        look,
-        title,
-    })?;
-    Ok(())
+/// The marks so far.
+#[derive(Drop)]
+pub(crate) struct Marks<'a> {
+    alloc: Global,
+    marks: Gathered<Mark<'a>>,
 }
 
-pub(crate) fn push_path<'a>(
-    marks: &mut Vec<Mark<'a>>,
-    way: Way,
-    look: Look,
-    title: Title<'a>,
-) -> Result<(), AllocError> {
-    marks.push(Mark::Path { way, look, title })?;
-    Ok(())
+/// One text behind another.
+fn joined(alloc: Global, first: &[u8], second: &[u8]) -> Result<Vec<u8>, AllocError> {
+    let mut text = Vec::from_slice(alloc, first)?;
+    text.extend_from_slice(second)?;
+    Ok(text)
 }
 
-pub(crate) fn push_text<'a>(
-    marks: &mut Vec<Mark<'a>>,
-    place: (u64, u64),
-    look: Look,
-    text: Vec<u8>,
-    title: Title<'a>,
-) -> Result<(), AllocError> {
-    marks.push(Mark::Text {
-        x: place.0,
-        y: place.1,
-        look,
-        text,
-        title,
-    })?;
-    Ok(())
+impl<'a> Marks<'a> {
+    pub(crate) fn new(alloc: Global) -> Marks<'a> {
+        Marks {
+            alloc,
+            marks: Gathered::new(alloc),
+        }
+    }
+
+    /// Memory ran out as a mark was made.
+    pub(crate) fn run_out(&mut self) {
+        self.marks.full = true;
+    }
+
+    pub(crate) fn add_box(
+        &mut self,
+        place: (u64, u64),
+        size: (u64, u64),
+        look: Look,
+        title: Title<'a>,
+    ) {
+        self.marks.add(Mark::Box {
+            x: place.0,
+            y: place.1,
+            width: size.0,
+            height: size.1,
+            look,
+            title,
+        });
+    }
+
+    pub(crate) fn add_path(&mut self, way: Way, look: Look, title: Title<'a>) {
+        self.marks.add(Mark::Path { way, look, title });
+    }
+
+    /// Adds a text, the second of these behind the first.
+    pub(crate) fn add_text(
+        &mut self,
+        place: (u64, u64),
+        look: Look,
+        texts: (&[u8], &[u8]),
+        title: Title<'a>,
+    ) {
+        match joined(self.alloc, texts.0, texts.1) {
+            Ok(text) => self.marks.add(Mark::Text {
+                x: place.0,
+                y: place.1,
+                look,
+                text,
+                title,
+            }),
+            Err(_) => self.run_out(),
+        }
+    }
+
+    /// The marks, if memory held all of them.
+    pub(crate) fn whole(self) -> Result<Vec<Mark<'a>>, AllocError> {
+        let Marks { marks, .. } = self;
+        marks.whole()
+    }
 }

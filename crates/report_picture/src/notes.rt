@@ -1,5 +1,6 @@
 //! What the lines of the books say, as far as a picture shows it.
 
+use crate::lists::{Gathered, at};
 use crate::looks::State;
 use report_reader::{Line, Said, value_of, words_of};
 use std::alloc::{AllocError, Global};
@@ -33,12 +34,71 @@ pub(crate) enum Verb {
     Other,
 }
 
+/// What a line can say: of a place of a channel, of a wait, of a channel, or of the row of a Job.
+#[derive(Clone, Copy)]
+pub(crate) enum Fact {
+    /// Hand, put or offer, at a place.
+    Brings,
+    Awaits,
+    Admits,
+    Takes,
+    /// Drop, spurn or drain.
+    GivesUp,
+    Wakes,
+    /// Of a wait.
+    Settles,
+    Late,
+    /// Of a channel.
+    Closes,
+    /// Of a row.
+    Attaches,
+    Starts,
+    Cancels,
+    Finishes,
+    /// The first and the last line of the coroutine with this tag.
+    First,
+    Last,
+    /// Nothing that is asked for.
+    Nothing,
+}
+
+/// How a Job ended, why it was cancelled, or what sort of Job was attached.
+#[derive(Clone, Copy)]
+pub(crate) enum How {
+    Plain,
+    Lazy,
+    Completed,
+    Cancelled,
+    /// Cancelled by a child that failed.
+    Child,
+    /// Cancelled with its parent.
+    Parent,
+    Other,
+}
+
+const HOWS: [(&[u8], How); 6] = [
+    (b"plain", How::Plain),
+    (b"lazy", How::Lazy),
+    (b"completed", How::Completed),
+    (b"cancelled", How::Cancelled),
+    (b"child", How::Child),
+    (b"parent", How::Parent),
+];
+
+fn how_of(word: &[u8]) -> How {
+    for (name, how) in &HOWS {
+        if word == *name {
+            return *how;
+        }
+    }
+    How::Other
+}
+
 /// Which words of a line are what, by their numbers; 0, which is the tag, where its verb has none.
 #[derive(Clone, Copy)]
 struct Parts {
     channel: usize,
     place: usize,
-    value: usize,
     wait: usize,
     row: usize,
     other: usize,
@@ -48,7 +108,6 @@ struct Parts {
 const NO_PARTS: Parts = Parts {
     channel: 0,
     place: 0,
-    value: 0,
     wait: 0,
     row: 0,
     other: 0,
@@ -65,15 +124,12 @@ const PLACE: Parts = Parts {
     ..CHANNEL
 };
 
-const ELEMENT: Parts = Parts { value: 4, ..PLACE };
-
-const OFFER: Parts = Parts { wait: 5, ..ELEMENT };
+const OFFER: Parts = Parts { wait: 5, ..PLACE };
 
 const AWAIT: Parts = Parts { wait: 4, ..PLACE };
 
 const WAIT: Parts = Parts {
     wait: 2,
-    how: 3,
     ..NO_PARTS
 };
 
@@ -89,43 +145,43 @@ const ATTACH: Parts = Parts {
     ..ROW
 };
 
-const VERBS: [(&[u8], Verb, Parts); 26] = [
-    (b"hand", Verb::Hand, ELEMENT),
-    (b"put", Verb::Put, ELEMENT),
-    (b"offer", Verb::Offer, OFFER),
-    (b"await", Verb::Await, AWAIT),
-    (b"take", Verb::Take, ELEMENT),
-    (b"admit", Verb::Admit, PLACE),
-    (b"drop", Verb::Drop, ELEMENT),
-    (b"spurn", Verb::Spurn, ELEMENT),
-    (b"drain", Verb::Drain, ELEMENT),
-    (b"wakeclosed", Verb::WakeClosed, PLACE),
-    (b"close", Verb::Close, CHANNEL),
-    (b"sendclosed", Verb::Refused, CHANNEL),
-    (b"trysendclosed", Verb::Refused, CHANNEL),
-    (b"receiveclosed", Verb::Refused, CHANNEL),
-    (b"tryreceiveclosed", Verb::Refused, CHANNEL),
-    (b"settle", Verb::Settle, WAIT),
-    (b"withdraw", Verb::Withdraw, WAIT),
-    (b"late", Verb::Late, WAIT),
-    (b"attach", Verb::Attach, ATTACH),
-    (b"start", Verb::Start, ROW),
-    (b"endbody", Verb::EndBody, ROW),
-    (b"cancel", Verb::Cancel, CANCEL),
-    (b"finish", Verb::Finish, FINISH),
-    (b"gone", Verb::Gone, ROW),
-    (b"saw", Verb::Saw, ROW),
-    (b"sawend", Verb::SawEnd, ROW),
+const VERBS: [(&[u8], Verb, Fact, Parts); 26] = [
+    (b"hand", Verb::Hand, Fact::Brings, PLACE),
+    (b"put", Verb::Put, Fact::Brings, PLACE),
+    (b"offer", Verb::Offer, Fact::Brings, OFFER),
+    (b"await", Verb::Await, Fact::Awaits, AWAIT),
+    (b"take", Verb::Take, Fact::Takes, PLACE),
+    (b"admit", Verb::Admit, Fact::Admits, PLACE),
+    (b"drop", Verb::Drop, Fact::GivesUp, PLACE),
+    (b"spurn", Verb::Spurn, Fact::GivesUp, PLACE),
+    (b"drain", Verb::Drain, Fact::GivesUp, PLACE),
+    (b"wakeclosed", Verb::WakeClosed, Fact::Wakes, PLACE),
+    (b"close", Verb::Close, Fact::Closes, CHANNEL),
+    (b"sendclosed", Verb::Refused, Fact::Nothing, CHANNEL),
+    (b"trysendclosed", Verb::Refused, Fact::Nothing, CHANNEL),
+    (b"receiveclosed", Verb::Refused, Fact::Nothing, CHANNEL),
+    (b"tryreceiveclosed", Verb::Refused, Fact::Nothing, CHANNEL),
+    (b"settle", Verb::Settle, Fact::Settles, WAIT),
+    (b"withdraw", Verb::Withdraw, Fact::Nothing, WAIT),
+    (b"late", Verb::Late, Fact::Late, WAIT),
+    (b"attach", Verb::Attach, Fact::Attaches, ATTACH),
+    (b"start", Verb::Start, Fact::Starts, ROW),
+    (b"endbody", Verb::EndBody, Fact::Nothing, ROW),
+    (b"cancel", Verb::Cancel, Fact::Cancels, CANCEL),
+    (b"finish", Verb::Finish, Fact::Finishes, FINISH),
+    (b"gone", Verb::Gone, Fact::Nothing, ROW),
+    (b"saw", Verb::Saw, Fact::Nothing, ROW),
+    (b"sawend", Verb::SawEnd, Fact::Nothing, ROW),
 ];
 
-/// The verb of a word among these, and where its parts stand.
-fn verb_among(verbs: &[(&[u8], Verb, Parts)], word: &[u8]) -> (Verb, Parts) {
-    for (name, verb, parts) in verbs {
+/// The verb of a word, what its line says, and where its parts stand.
+fn verb_of(word: &[u8]) -> (Verb, Fact, Parts) {
+    for (name, verb, fact, parts) in &VERBS {
         if word == *name {
-            return (*verb, *parts);
+            return (*verb, *fact, *parts);
         }
     }
-    (Verb::Other, NO_PARTS)
+    (Verb::Other, Fact::Nothing, NO_PARTS)
 }
 
 /// The line of a book, taken apart. What its verb does not have is 0, or empty.
@@ -135,69 +191,80 @@ pub(crate) struct Note<'a> {
     /// The coroutine.
     pub(crate) tag: u32,
     pub(crate) verb: Verb,
+    pub(crate) fact: Fact,
     /// The channel and the place.
     pub(crate) channel: &'a [u8],
     pub(crate) place: &'a [u8],
-    /// The element.
-    pub(crate) value: &'a [u8],
     /// The wait.
     pub(crate) wait: &'a [u8],
     /// The row of a Job.
     pub(crate) row: u32,
     /// The other row: a parent's, or that of a child that failed.
     pub(crate) other: u32,
-    /// How a wait or a Job ended, why a Job was cancelled, or what sort of Job was attached.
-    pub(crate) how: &'a [u8],
+    /// How a Job ended, why it was cancelled, or what sort of Job was attached.
+    pub(crate) how: How,
     /// The Job is attached as cancelled.
     pub(crate) cancelled: bool,
 }
 
-fn word_at<'a>(words: &[&'a [u8]], i: usize) -> &'a [u8] {
-    match words.get(i) {
-        Some(word) => *word,
-        None => b"",
-    }
-}
+/// That of no line.
+pub(crate) const NO_NOTE: Note<'static> = Note {
+    text: b"",
+    tag: 0,
+    verb: Verb::Other,
+    fact: Fact::Nothing,
+    channel: b"",
+    place: b"",
+    wait: b"",
+    row: 0,
+    other: 0,
+    how: How::Other,
+    cancelled: false,
+};
 
 /// The word with this number; none has 0.
 fn part_at<'a>(words: &[&'a [u8]], i: usize) -> &'a [u8] {
-    if i == 0 { b"" } else { word_at(words, i) }
+    if i == 0 { b"" } else { at(words, i, b"") }
 }
 
 fn number_at(words: &[&[u8]], i: usize) -> u32 {
-    match value_of(part_at(words, i)) {
-        Some(n) => n,
-        None => 0,
-    }
+    value_of(part_at(words, i)).unwrap_or(0)
 }
 
 fn note_of<'a>(tag: u32, text: &'a [u8], words: &[&'a [u8]]) -> Note<'a> {
-    let (verb, parts) = verb_among(&VERBS, word_at(words, 1));
+    let (verb, fact, parts) = verb_of(at(words, 1, b""));
     Note {
         text,
         tag,
         verb,
+        fact,
         channel: part_at(words, parts.channel),
         place: part_at(words, parts.place),
-        value: part_at(words, parts.value),
         wait: part_at(words, parts.wait),
         row: number_at(words, parts.row),
         other: number_at(words, parts.other),
-        how: part_at(words, parts.how),
+        how: how_of(part_at(words, parts.how)),
         cancelled: matches!(verb, Verb::Attach) && words.len() > 8,
     }
 }
 
-impl Note<'_> {
+impl<'a> Note<'a> {
+    /// The line itself.
+    pub(crate) fn line(&self) -> Line<'a> {
+        Line {
+            said: Said::Note(self.tag),
+            text: self.text,
+        }
+    }
+
     /// Whether it attaches the Job of a coroutine, and not that of a scope.
     pub(crate) fn launches(&self) -> bool {
-        matches!(self.verb, Verb::Attach)
-            && (self.how == b"plain".as_slice() || self.how == b"lazy".as_slice())
+        matches!(self.verb, Verb::Attach) && matches!(self.how, How::Plain | How::Lazy)
     }
 
     /// Whether it attaches a Job that is to be started.
     pub(crate) fn is_lazy(&self) -> bool {
-        self.how == b"lazy".as_slice()
+        matches!(self.how, How::Lazy)
     }
 
     /// Whether it places a wait.
@@ -205,13 +272,9 @@ impl Note<'_> {
         matches!(self.verb, Verb::Offer | Verb::Await)
     }
 
-    /// Whether it tells that a Job was attached, started, ended or removed, or that its done channel was closed.
-    pub(crate) fn is_bookkeeping(&self) -> bool {
-        match self.verb {
-            Verb::Attach | Verb::Start | Verb::EndBody | Verb::Finish | Verb::Gone => true,
-            Verb::Close => self.channel.first() == Some(&b'@'),
-            _ => false,
-        }
+    /// Whether the wait that it places is that of another line of its book.
+    pub(crate) fn waits_as(&self, other: &Note<'_>) -> bool {
+        self.tag == other.tag && self.wait == other.wait
     }
 
     /// The state in which it attaches a Job.
@@ -227,12 +290,10 @@ impl Note<'_> {
 
     /// The state in which a Job ends by it.
     fn finished(&self) -> State {
-        if self.how == b"completed".as_slice() {
-            State::Completed
-        } else if self.how == b"cancelled".as_slice() {
-            State::Cancelled
-        } else {
-            State::Failed
+        match self.how {
+            How::Completed => State::Completed,
+            How::Cancelled => State::Cancelled,
+            _ => State::Failed,
         }
     }
 
@@ -251,13 +312,20 @@ impl Note<'_> {
 
 /// The lines of the books, each taken apart.
 pub(crate) fn notes_in<'a>(alloc: Global, lines: &[Line<'a>]) -> Result<Vec<Note<'a>>, AllocError> {
-    let mut notes = Vec::new(alloc);
+    let mut notes = Gathered::new(alloc);
     let mut words = Vec::new(alloc);
     for line in lines {
-        if let Said::Note(tag) = line.said {
-            words_of(&mut words, line.text)?;
-            notes.push(note_of(tag, line.text, words.as_slice()))?;
-        }
+        add_note(&mut notes, &mut words, *line);
     }
-    Ok(notes)
+    notes.whole()
+}
+
+/// Adds a line, if it stands in a book.
+fn add_note<'a>(notes: &mut Gathered<Note<'a>>, words: &mut Vec<&'a [u8]>, line: Line<'a>) {
+    if let Said::Note(tag) = line.said {
+        if words_of(words, line.text).is_err() {
+            notes.full = true;
+        }
+        notes.add(note_of(tag, line.text, words.as_slice()));
+    }
 }

@@ -7,6 +7,7 @@ ghost use Rattle.report_picture.specs.Order.{StandFrom};
 ghost use Rattle.report_picture.specs.Pictures.{EndsAbove, StandInColumns, StandInOrder, is_drawn, is_left_out, is_of, is_target, is_within, lines_in};
 
 use crate::columns::Wanted;
+use crate::lists::at;
 use crate::picture::Drawn;
 use co_base::Memory;
 use picture_parts::{Names, column_of, is_among, is_bookkeeping, row_behind};
@@ -123,28 +124,14 @@ pub(crate) fn drawn_in<'a>(
     let mut i = 0usize;
     while let [line, more @ ..] = rest {
         let about = About {
-            target: target_at(targets, i),
+            target: at(targets, i, None),
             source: names.source_at(i),
         };
-        push_drawn(&mut drawn, wanted, tags, row_at(rows, i), about, *line)?;
+        push_drawn(&mut drawn, wanted, tags, at(rows, i, 0), about, *line)?;
         i = i.saturating_add(1);
         rest = more;
     }
     Ok(drawn)
-}
-
-fn row_at(rows: &[u32], i: usize) -> u32 {
-    match rows.get(i) {
-        Some(row) => *row,
-        None => 0,
-    }
-}
-
-fn target_at(targets: &[Option<u32>], i: usize) -> Option<u32> {
-    match targets.get(i) {
-        Some(target) => *target,
-        None => None,
-    }
 }
 
 /// Adds a line one row below the last, if it is drawn.
@@ -203,7 +190,7 @@ pub(crate) fn drawn_as_told<'a>(
     let mut i = 0usize;
     while let [line, more @ ..] = rest {
         let about = About {
-            target: target_at(targets, i),
+            target: at(targets, i, None),
             source: names.source_at(i),
         };
         push_next(&mut drawn, wanted, tags, about, *line)?;

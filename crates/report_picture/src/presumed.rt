@@ -1,137 +1,121 @@
 //! Where the lines stand that the lines of a picture presuppose.
 
-use crate::causes::{received_by, sent_by};
-use crate::notes::{Note, Verb};
-use crate::picture::Drawn;
+use crate::arranged::Books;
+use crate::lists::{Gathered, NOWHERE, Numbers, at};
+use crate::notes::{Fact, Note, Verb};
 use crate::sources::{Place, Sources};
-use crate::tables::Tables;
+use crate::told::Told;
 use std::alloc::{AllocError, Global};
-use std::collections::HashMap;
 
-/// A number that no line has.
-const NOWHERE: usize = usize::MAX;
+/// The place of no line.
+const NO_PLACE: Place = Place::InReport(NOWHERE);
 
-/// The line that placed a wait, and the one that resolved it, by their numbers among the lines of the books.
-#[derive(Clone, Copy)]
-struct Resolved {
-    placing: usize,
-    by: usize,
-}
-
-/// Whether the line with this number in the picture has this text.
-fn stands_at(drawn: &[Drawn], number: usize, text: &[u8]) -> bool {
-    match drawn.get(number) {
-        Some(line) => line.line.text == text,
-        None => false,
+/// The place of a line: in the picture, if it is drawn, as the next there.
+fn place_of(is_drawn: bool, next: usize, number: usize) -> Place {
+    if is_drawn {
+        Place::InPicture(next)
+    } else {
+        Place::InReport(number)
     }
 }
 
-/// Of each line of the books its place: in the picture, if it stands there.
-fn places_of(alloc: Global, notes: &[Note], drawn: &[Drawn]) -> Result<Vec<Place>, AllocError> {
-    let mut places = Vec::new(alloc);
+/// Of each line of the books its place.
+fn places_of<'a>(alloc: Global, books: Books<'_, 'a>) -> Result<Vec<Place>, AllocError> {
+    let mut places = Gathered::new(alloc);
     let mut next = 0usize;
-    for (number, note) in notes.iter().enumerate() {
-        let here = stands_at(drawn, next, note.text);
-        places.push(if here {
-            Place::InPicture(next)
-        } else {
-            Place::InReport(number)
-        })?;
-        next = next.saturating_add(usize::from(here));
+    for (number, note) in books.told.notes.iter().enumerate() {
+        let is_drawn = books.is_drawn(note);
+        places.add(place_of(is_drawn, next, number));
+        next = next.saturating_add(usize::from(is_drawn));
     }
-    Ok(places)
+    places.whole()
 }
 
 /// The line that resolved the wait of this line, if it placed or withdrew one and one did.
-fn resolved_by<'a>(tables: &Tables<'a>, number: usize, note: &Note<'a>) -> Option<usize> {
-    let of = tables.place(note.channel, note.place);
+fn resolved_by<'a>(told: &Told<'a>, number: usize) -> usize {
+    let note = told.note(number);
     match note.verb {
-        Verb::Offer => sent_by(of),
-        Verb::Await => received_by(of),
-        Verb::Withdraw => Some(number),
-        _ => None,
+        Verb::Offer => told.sent_by(&note),
+        Verb::Await => told.received_by(&note),
+        Verb::Withdraw => number,
+        _ => NOWHERE,
     }
 }
 
-/// Whether a line stands above the one that is known, if one is.
-fn is_first(rows: &[u32], by: usize, known: Option<&Resolved>) -> bool {
-    match known {
-        Some(old) => row_of(rows, by) < row_of(rows, old.by),
-        None => true,
+/// Whether the line that resolved the wait of one line stands above that of another, if there is one.
+fn is_first<'a>(told: &Told<'a>, rows: &[u32], number: usize, known: usize) -> bool {
+    let by = resolved_by(told, number);
+    if by == NOWHERE || known == NOWHERE {
+        by != NOWHERE
+    } else {
+        row_of(rows, by) < row_of(rows, resolved_by(told, known))
     }
 }
 
-/// What resolved each wait: of several lines the topmost.
-fn resolved_in<'a>(
-    alloc: Global,
-    notes: &[Note<'a>],
-    tables: &Tables<'a>,
-    rows: &[u32],
-) -> Result<HashMap<&'a [u8], Resolved>, AllocError> {
-    let mut resolved: HashMap<&'a [u8], Resolved> = HashMap::new(alloc);
-    for (number, note) in notes.iter().enumerate() {
-        if let Some(by) = resolved_by(tables, number, note)
-            && is_first(rows, by, resolved.get(&note.wait))
-        {
-            let placing = number;
-            resolved.insert(note.wait, Resolved { placing, by })?;
+/// Tells of each wait the line that placed or withdrew it and was resolved: of several the one for which that stands topmost.
+fn resolve_all<'a>(resolved: &mut Numbers<&'a [u8]>, told: &Told<'a>, rows: &[u32]) {
+    for (number, note) in told.notes.iter().enumerate() {
+        if is_first(told, rows, number, resolved.at(note.wait)) {
+            resolved.put(note.wait, number);
         }
     }
-    Ok(resolved)
+}
+
+fn resolved_in<'a>(
+    alloc: Global,
+    told: &Told<'a>,
+    rows: &[u32],
+) -> Result<Numbers<&'a [u8]>, AllocError> {
+    let mut resolved = Numbers::new(alloc);
+    resolve_all(&mut resolved, told, rows);
+    resolved.whole()
 }
 
 fn row_of(rows: &[u32], number: usize) -> u32 {
-    match rows.get(number) {
-        Some(row) => *row,
-        None => u32::MAX,
-    }
+    at(rows, number, u32::MAX)
 }
 
-fn place_at(places: &[Place], number: Option<usize>) -> Place {
-    match number {
-        Some(number) => match places.get(number) {
-            Some(place) => *place,
-            None => Place::InReport(NOWHERE),
-        },
-        None => Place::InReport(NOWHERE),
-    }
+fn place_at(places: &[Place], number: usize) -> Place {
+    at(places, number, NO_PLACE)
 }
 
-/// What a line of a book presupposes, by the places of the lines of the books.
-fn sources_of<'a>(
-    note: &Note<'a>,
-    tables: &Tables<'a>,
-    places: &[Place],
-    resolved: &HashMap<&'a [u8], Resolved>,
-) -> Sources {
-    let (placing, by) = match resolved.get(&note.wait) {
-        Some(found) => (found.placing, Some(found.by)),
-        None => (NOWHERE, None),
-    };
+/// What a line of a book presupposes, by the places of the lines of the books, and the line that placed the wait that it settles.
+fn sources_of<'a>(told: &Told<'a>, note: &Note<'a>, places: &[Place], placing: usize) -> Sources {
     Sources {
-        attach: place_at(places, tables.row(note.tag).attaches),
-        bring: place_at(places, tables.place(note.channel, note.place).brings),
+        attach: place_at(places, told.of_row(Fact::Attaches, note.tag)),
+        bring: place_at(
+            places,
+            told.at_place(Fact::Brings, note.channel, note.place),
+        ),
         placing,
-        resolve: place_at(places, by),
-        cancel: place_at(places, tables.row(note.row).cancels),
+        resolve: place_at(places, resolved_by(told, placing)),
+        cancel: place_at(places, told.of_row(Fact::Cancels, note.row)),
     }
 }
 
 /// Where the lines stand that the lines of a picture presuppose, by the rows of the lines of the books.
 pub(crate) fn sources_in<'a>(
     alloc: Global,
-    notes: &[Note<'a>],
-    tables: &Tables<'a>,
+    books: Books<'_, 'a>,
     rows: &[u32],
-    drawn: &[Drawn<'a>],
 ) -> Result<Vec<Sources>, AllocError> {
-    let places = places_of(alloc, notes, drawn)?;
-    let resolved = resolved_in(alloc, notes, tables, rows)?;
-    let mut sources = Vec::new(alloc);
-    for (number, note) in notes.iter().enumerate() {
-        if let Some(Place::InPicture(_)) = places.get(number) {
-            sources.push(sources_of(note, tables, places.as_slice(), &resolved))?;
+    let places = places_of(alloc, books)?;
+    let resolved = resolved_in(alloc, books.told, rows)?;
+    drawn_sources(alloc, books, places.as_slice(), &resolved)
+}
+
+/// Those of the lines that are drawn.
+fn drawn_sources<'a>(
+    alloc: Global,
+    books: Books<'_, 'a>,
+    places: &[Place],
+    resolved: &Numbers<&'a [u8]>,
+) -> Result<Vec<Sources>, AllocError> {
+    let mut sources = Gathered::new(alloc);
+    for note in books.told.notes.iter() {
+        if books.is_drawn(note) {
+            sources.add(sources_of(books.told, note, places, resolved.at(note.wait)));
         }
     }
-    Ok(sources)
+    sources.whole()
 }

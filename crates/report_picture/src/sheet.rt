@@ -2,8 +2,10 @@
 
 use crate::arranged::Books;
 use crate::layout::{HALF, row_y};
-use crate::notes::Note;
+use crate::lists::{NOWHERE, at};
 use crate::picture::{Column, Title};
+use picture_parts::column_of;
+use report_reader::Said;
 
 /// The lines of the books, what they say, and where they are drawn.
 #[derive(Clone, Copy)]
@@ -19,54 +21,42 @@ pub(crate) struct Sheet<'s, 'a> {
     pub(crate) top: u32,
 }
 
+/// The column of no coroutine.
+const NO_COLUMN: Column = Column {
+    tag: 0,
+    left: 0,
+    text: 0,
+};
+
 impl<'s, 'a> Sheet<'s, 'a> {
-    /// The number of a coroutine's column.
-    pub(crate) fn column(&self, tag: u32) -> Option<usize> {
-        for (i, other) in self.books.tags.iter().enumerate() {
-            if *other == tag {
-                return Some(i);
-            }
-        }
-        None
+    /// The number of a coroutine's column; that of nowhere, if it has none.
+    pub(crate) fn column(&self, tag: u32) -> usize {
+        column_of(Said::Note(tag), self.books.tags).unwrap_or(NOWHERE)
     }
 
     /// Where the bar of a column begins from the left.
     pub(crate) fn left_of(&self, column: usize) -> u64 {
-        match self.columns.get(column) {
-            Some(column) => column.left,
-            None => 0,
-        }
+        at(self.columns, column, NO_COLUMN).left
     }
 
-    /// Where the bar of a coroutine begins from the left, if that has a column.
-    pub(crate) fn left(&self, tag: u32) -> Option<u64> {
-        match self.column(tag) {
-            Some(column) => Some(self.left_of(column)),
-            None => None,
-        }
-    }
-
-    pub(crate) fn note(&self, number: usize) -> Option<Note<'a>> {
-        match self.books.notes.get(number) {
-            Some(note) => Some(*note),
-            None => None,
-        }
+    /// Where the texts of the lines of a column begin from the left.
+    pub(crate) fn texts_of(&self, column: usize) -> u64 {
+        at(self.columns, column, NO_COLUMN).text
     }
 
     /// The column of a line, if it is drawn.
-    pub(crate) fn column_at(&self, number: usize) -> Option<usize> {
-        match self.books.notes.get(number) {
-            Some(note) if self.books.is_drawn(note) => self.column(note.tag),
-            _ => None,
+    pub(crate) fn column_at(&self, number: usize) -> usize {
+        let note = self.books.told.note(number);
+        if number < self.rows.len() && self.books.is_drawn(&note) {
+            self.column(note.tag)
+        } else {
+            NOWHERE
         }
     }
 
     /// The text of a line.
     pub(crate) fn text_at(&self, number: usize) -> &'a [u8] {
-        match self.books.notes.get(number) {
-            Some(note) => note.text,
-            None => b"",
-        }
+        self.books.told.note(number).text
     }
 
     /// What a reader is shown of a line.
@@ -79,10 +69,7 @@ impl<'s, 'a> Sheet<'s, 'a> {
 
     /// The row of a line; behind the last line that of the picture's end.
     pub(crate) fn row(&self, number: usize) -> u32 {
-        match self.rows.get(number) {
-            Some(row) => *row,
-            None => self.until,
-        }
+        at(self.rows, number, self.until)
     }
 
     /// Whether the row of a line is drawn.

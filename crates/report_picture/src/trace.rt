@@ -6,20 +6,18 @@ ghost use Rattle.std.specs.Prelude.{◌≡◌, ◌++◌, ◌∷◌, [], ◌&&◌
 ghost use Rattle.report_reader.specs.Reading.{told, told_lines};
 ghost use Rattle.report_picture.specs.Traces.{Tells, is_asked_for, is_traced};
 
+use crate::arranged::{caused_order, counted};
 use crate::arrows::{Arrow, arrows_of, channels_of};
-use crate::causes::causes_of;
 use crate::columns::Wanted;
-use crate::drawing::{Told, told_in};
-use crate::filled::filled;
-use crate::lives::{Life, comes_to, is_end};
+use crate::lists::{Gathered, NOWHERE, Numbers, at, filled, put};
+use crate::lives::{Life, NO_LIFE, comes_to, is_end};
 use crate::looks::{Look, State};
-use crate::notes::Note;
-use crate::order::order_of;
+use crate::notes::{Fact, Note};
 use crate::picture::Title;
+use crate::told::{Told, told_in};
 use picture_parts::{Names, is_bookkeeping};
 use report_reader::{Line, Said};
 use std::alloc::{AllocError, Global};
-use std::collections::HashMap;
 
 /// The track of a coroutine, or of a Job.
 #[derive(Clone, Copy)]
@@ -109,29 +107,17 @@ struct Times {
     in_order: bool,
 }
 
-/// The numbers of the lines in an order that their causes allow; in that of the report, where there is none.
-fn ordered<'a>(alloc: Global, told: &Told<'a>) -> Result<(Vec<usize>, bool), AllocError> {
-    let lines = told.notes.len();
-    let causes = causes_of(alloc, told.notes.as_slice(), &told.tables)?;
-    let order = order_of(alloc, lines, causes.as_slice())?;
-    if order.len() == lines {
-        return Ok((order, true));
-    }
-    let mut as_told = Vec::new(alloc);
-    for number in 0..lines {
-        as_told.push(number)?;
-    }
-    Ok((as_told, false))
-}
-
-fn times_of<'a>(alloc: Global, told: &Told<'a>) -> Result<Times, AllocError> {
-    let (order, in_order) = ordered(alloc, told)?;
+/// Of each line when it was written, from their order.
+fn places_of(alloc: Global, order: &[usize]) -> Result<Vec<u64>, AllocError> {
     let mut places = filled(alloc, 0u64, order.len())?;
     for (place, number) in order.iter().enumerate() {
-        if let Some(slot) = places.get_mut(*number) {
-            *slot = (place as u64).saturating_mul(10);
-        }
+        put(&mut places, *number, (place as u64).saturating_mul(10));
     }
+    Ok(places)
+}
+
+fn times_in(alloc: Global, order: Vec<usize>, in_order: bool) -> Result<Times, AllocError> {
+    let places = places_of(alloc, order.as_slice())?;
     Ok(Times {
         order,
         places,
@@ -139,19 +125,21 @@ fn times_of<'a>(alloc: Global, told: &Told<'a>) -> Result<Times, AllocError> {
     })
 }
 
-/// When a line was written; behind the last that of the end.
-fn time_at(places: &[u64], number: usize) -> u64 {
-    match places.get(number) {
-        Some(time) => *time,
-        None => (places.len() as u64).saturating_mul(10),
+/// The times of the lines in an order that their causes allow; in that of the report, where there is none.
+fn times_of<'a>(alloc: Global, told: &Told<'a>) -> Result<Times, AllocError> {
+    let lines = told.notes.len();
+    let order = caused_order(alloc, told)?;
+    if order.len() == lines {
+        times_in(alloc, order, true)
+    } else {
+        times_in(alloc, counted(alloc, lines)?, false)
     }
 }
 
-fn is_at(flags: &[bool], number: usize) -> bool {
-    match flags.get(number) {
-        Some(flag) => *flag,
-        None => false,
-    }
+/// When a line was written; behind the last that of the end.
+fn time_at(places: &[u64], number: usize) -> u64 {
+    let end = (places.len() as u64).saturating_mul(10);
+    at(places, number, end)
 }
 
 // ---- the lines
@@ -197,7 +185,7 @@ fn moments_in<'a>(
         push_moment(
             &mut moments,
             wanted,
-            (time_at(places, i), is_at(joined, i)),
+            (time_at(places, i), at(joined, i, false)),
             names.source_at(i),
             *line,
         )?;
@@ -209,25 +197,29 @@ fn moments_in<'a>(
 
 // ---- the rest
 
-/// Whether a line of the books is asked for.
-fn is_seen(wanted: Wanted, note: &Note) -> bool {
-    wanted.first <= note.tag
-        && note.tag <= wanted.last
-        && !(wanted.only_channels && note.is_bookkeeping())
-}
-
 /// The track of a coroutine.
 fn own_track(tag: u32) -> u64 {
     u64::from(tag) * 2
 }
 
-/// The tracks and the events so far, and the states of the Jobs.
+/// A Job: its row, and the state that it has come to.
+#[derive(Clone, Copy)]
+struct Job {
+    row: u32,
+    life: Life,
+}
+
+/// The tracks and the events so far, and the Jobs, with the number of that of each row.
 #[derive(Drop)]
 struct Building<'a> {
-    tracks: Vec<Track>,
-    events: Vec<Event<'a>>,
-    jobs: HashMap<u32, Life>,
+    tracks: Gathered<Track>,
+    events: Gathered<Event<'a>>,
+    jobs: Gathered<Job>,
+    numbers: Numbers<u32>,
 }
+
+/// The tracks and the events.
+type Built<'a> = (Vec<Track>, Vec<Event<'a>>);
 
 /// The name and the category of an arrow.
 fn names_of<'a>(look: Look, note: &Note<'a>) -> (&'a [u8], &'a [u8]) {
@@ -249,22 +241,22 @@ struct Setting<'s, 'a> {
 }
 
 impl<'s, 'a> Setting<'s, 'a> {
-    fn note(&self, number: usize) -> Option<Note<'a>> {
-        match self.told.notes.get(number) {
-            Some(note) => Some(*note),
-            None => None,
-        }
-    }
-
     /// A line of the books, and the line of the script that it comes from.
     fn title_at(&self, number: usize) -> Title<'a> {
         Title {
-            line: match self.told.notes.get(number) {
-                Some(note) => note.text,
-                None => b"",
-            },
+            line: self.told.note(number).text,
             source: self.names.source_at(number),
         }
+    }
+
+    /// Whether a coroutine is asked for.
+    fn asks_for(&self, tag: u32) -> bool {
+        is_asked_for(self.wanted, Said::Note(tag))
+    }
+
+    /// Whether a line of the books is asked for.
+    fn shows(&self, note: &Note) -> bool {
+        is_traced(self.wanted, note.line())
     }
 
     /// When a line was written.
@@ -297,47 +289,31 @@ fn event_of<'a>(
 }
 
 /// Adds an arrow, if both its lines are asked for.
-fn push_flow<'a>(
-    events: &mut Vec<Event<'a>>,
+fn add_flow<'a>(
+    events: &mut Gathered<Event<'a>>,
     setting: Setting<'_, 'a>,
     flow: u64,
     arrow: &Arrow,
-) -> Result<(), AllocError> {
-    let (Some(from), Some(to)) = (setting.note(arrow.from), setting.note(arrow.to)) else {
-        return Ok(());
-    };
-    if !is_seen(setting.wanted, &from) || !is_seen(setting.wanted, &to) {
-        return Ok(());
+) {
+    let from = setting.told.note(arrow.from);
+    let to = setting.told.note(arrow.to);
+    if setting.shows(&from) && setting.shows(&to) {
+        let names = names_of(arrow.look, &from);
+        let at = setting.time(arrow.from).saturating_add(1);
+        let leaves = Happening::Leaves { at, flow };
+        let told = setting.title_at(arrow.from);
+        events.add(event_of(own_track(from.tag), names, leaves, told));
+        let at = setting.time(arrow.to).saturating_add(1);
+        let arrives = Happening::Arrives { at, flow };
+        let told = setting.title_at(arrow.to);
+        events.add(event_of(own_track(to.tag), names, arrives, told));
     }
-    let names = names_of(arrow.look, &from);
-    let at = setting.time(arrow.from).saturating_add(1);
-    let leaves = Happening::Leaves { at, flow };
-    events.push(event_of(
-        own_track(from.tag),
-        names,
-        leaves,
-        setting.title_at(arrow.from),
-    ))?;
-    let at = setting.time(arrow.to).saturating_add(1);
-    let arrives = Happening::Arrives { at, flow };
-    events.push(event_of(
-        own_track(to.tag),
-        names,
-        arrives,
-        setting.title_at(arrow.to),
-    ))?;
-    Ok(())
 }
 
-fn push_flows<'a>(
-    events: &mut Vec<Event<'a>>,
-    setting: Setting<'_, 'a>,
-    arrows: &[Arrow],
-) -> Result<(), AllocError> {
+fn add_flows<'a>(events: &mut Gathered<Event<'a>>, setting: Setting<'_, 'a>, arrows: &[Arrow]) {
     for (flow, arrow) in arrows.iter().enumerate() {
-        push_flow(events, setting, flow as u64, arrow)?;
+        add_flow(events, setting, flow as u64, arrow);
     }
-    Ok(())
 }
 
 /// What lasts from one time to another.
@@ -348,119 +324,131 @@ fn lasting(from: u64, until: u64) -> Happening {
     }
 }
 
-/// Adds the waits, each from behind the line that began it to before its settle.
-fn push_waits<'a>(events: &mut Vec<Event<'a>>, setting: Setting<'_, 'a>) -> Result<(), AllocError> {
-    let mut drawn: (u32, &'a [u8]) = (0, b"");
-    for (number, note) in setting.told.notes.iter().enumerate() {
-        if note.waits()
-            && is_seen(setting.wanted, note)
-            && !(drawn.0 == note.tag && drawn.1 == note.wait)
-        {
-            drawn = (note.tag, note.wait);
-            let until = match setting.told.tables.wait(note.wait).settles {
-                Some(settle) => setting.time(settle),
-                None => setting.end(),
-            };
-            let from = setting.time(number).saturating_add(9);
-            events.push(event_of(
-                own_track(note.tag),
-                (note.wait, b"wait"),
-                lasting(from, until.saturating_sub(1)),
-                setting.title_at(number),
-            ))?;
+/// Adds a wait, from behind the line that began it to before its settle.
+fn add_wait<'a>(
+    events: &mut Gathered<Event<'a>>,
+    setting: Setting<'_, 'a>,
+    number: usize,
+    note: &Note<'a>,
+) {
+    let settle = setting.told.of_wait(Fact::Settles, note.wait);
+    let until = setting.time(settle).saturating_sub(1);
+    let from = setting.time(number).saturating_add(9);
+    let names = (note.wait, b"wait".as_slice());
+    let told = setting.title_at(number);
+    events.add(event_of(own_track(note.tag), names, lasting(from, until), told));
+}
+
+/// Adds the waits.
+fn add_waits<'a>(events: &mut Gathered<Event<'a>>, setting: Setting<'_, 'a>) {
+    let told = setting.told;
+    let mut last = NOWHERE;
+    for (number, note) in told.notes.iter().enumerate() {
+        if note.waits() && setting.shows(note) && !note.waits_as(&told.note(last)) {
+            last = number;
+            add_wait(events, setting, number, note);
         }
     }
-    Ok(())
 }
 
 /// Whether a Job has a track: that of a coroutine that is asked for, or of a scope of one.
-fn has_track<'a>(wanted: Wanted, told: &Told<'a>, row: u32) -> bool {
-    let by = match told.tables.row(row).attaches {
-        Some(number) => match told.notes.get(number) {
-            Some(note) if !note.launches() => note.tag,
-            _ => row,
-        },
-        None => row,
-    };
-    wanted.first <= by && by <= wanted.last
+fn has_track<'a>(setting: Setting<'_, 'a>, row: u32) -> bool {
+    let number = setting.told.of_row(Fact::Attaches, row);
+    let attach = setting.told.note(number);
+    if number == NOWHERE || attach.launches() {
+        setting.asks_for(row)
+    } else {
+        setting.asks_for(attach.tag)
+    }
 }
 
 /// Adds the stretch of a Job in one state.
-fn push_state<'a>(
-    events: &mut Vec<Event<'a>>,
+fn add_state<'a>(
+    events: &mut Gathered<Event<'a>>,
     setting: Setting<'_, 'a>,
     row: u32,
     life: Life,
     until: u64,
-) -> Result<(), AllocError> {
-    events.push(event_of(
-        own_track(row).saturating_add(1),
-        (life.state.word(), b"state"),
-        lasting(setting.time(life.since), until),
-        setting.title_at(life.since),
-    ))?;
-    Ok(())
+) {
+    let track = own_track(row).saturating_add(1);
+    let names = (life.state.word(), b"state".as_slice());
+    let lasts = lasting(setting.time(life.since), until);
+    events.add(event_of(track, names, lasts, setting.title_at(life.since)));
 }
 
+const NO_JOB: Job = Job {
+    row: 0,
+    life: NO_LIFE,
+};
+
 impl<'a> Building<'a> {
-    /// The Job comes to a state.
-    fn change(&mut self, setting: Setting<'_, 'a>, row: u32, new: Life) -> Result<(), AllocError> {
-        match self.jobs.get(&row).copied() {
-            Some(old) => {
-                if !comes_to(old.state, new.state) {
-                    return Ok(());
-                }
-                push_state(&mut self.events, setting, row, old, setting.time(new.since))?;
-            }
-            None => {
-                self.tracks.push(Track {
-                    is_job: true,
-                    number: row,
-                })?;
-            }
-        }
-        self.jobs.insert(row, new)?;
-        Ok(())
+    fn add_track(&mut self, is_job: bool, number: u32) {
+        self.tracks.add(Track { is_job, number });
     }
 
-    /// What a line says of its own coroutine: its first line, that it has a track; and of Jobs.
-    fn pass_line(&mut self, setting: Setting<'_, 'a>, since: usize) -> Result<(), AllocError> {
-        let Some(note) = setting.note(since) else {
-            return Ok(());
-        };
-        let wanted = setting.wanted;
-        if setting.told.tables.row(note.tag).first == Some(since)
-            && wanted.first <= note.tag
-            && note.tag <= wanted.last
-        {
-            self.tracks.push(Track {
-                is_job: false,
-                number: note.tag,
-            })?;
-            if self.jobs.get(&note.tag).is_none() {
-                let state = State::Active;
-                self.change(setting, note.tag, Life { state, since })?;
-            }
+    /// A Job begins in a state.
+    fn begin(&mut self, row: u32, life: Life) {
+        self.add_track(true, row);
+        self.numbers.put(row, self.jobs.as_slice().len());
+        self.jobs.add(Job { row, life });
+    }
+
+    /// The Job comes to a state.
+    fn change(&mut self, setting: Setting<'_, 'a>, row: u32, life: Life) {
+        let number = self.numbers.at(row);
+        let old = at(self.jobs.as_slice(), number, NO_JOB).life;
+        if number == NOWHERE {
+            self.begin(row, life);
+        } else if comes_to(old.state, life.state) {
+            add_state(
+                &mut self.events,
+                setting,
+                row,
+                old,
+                setting.time(life.since),
+            );
+            put(self.jobs.as_mut(), number, Job { row, life });
+        }
+    }
+
+    /// What the first line of a coroutine says: that it has a track.
+    fn begin_own(&mut self, tag: u32, since: usize) {
+        self.add_track(false, tag);
+        if self.numbers.at(tag) == NOWHERE {
+            let state = State::Active;
+            self.begin(tag, Life { state, since });
+        }
+    }
+
+    /// What a line says of its own coroutine and of Jobs.
+    fn pass_line(&mut self, setting: Setting<'_, 'a>, since: usize) {
+        let told = setting.told;
+        let note = told.note(since);
+        if told.of_row(Fact::First, note.tag) == since && setting.asks_for(note.tag) {
+            self.begin_own(note.tag, since);
         }
         if let Some(state) = note.state()
-            && has_track(wanted, setting.told, note.row)
+            && has_track(setting, note.row)
         {
-            self.change(setting, note.row, Life { state, since })?;
+            self.change(setting, note.row, Life { state, since });
         }
-        Ok(())
     }
 
     /// The last stretches of the Jobs that have not ended.
-    fn push_last(&mut self, setting: Setting<'_, 'a>) -> Result<(), AllocError> {
-        for track in self.tracks.iter() {
-            if track.is_job
-                && let Some(life) = self.jobs.get(&track.number).copied()
-                && !is_end(life.state)
-            {
-                push_state(&mut self.events, setting, track.number, life, setting.end())?;
+    fn add_last(&mut self, setting: Setting<'_, 'a>) {
+        for job in self.jobs.as_slice() {
+            if !is_end(job.life.state) {
+                add_state(&mut self.events, setting, job.row, job.life, setting.end());
             }
         }
-        Ok(())
+    }
+
+    /// What the lines say, in this order.
+    fn pass_lines(&mut self, setting: Setting<'_, 'a>, order: &[usize]) {
+        for number in order {
+            self.pass_line(setting, *number);
+        }
+        self.add_last(setting);
     }
 }
 
@@ -468,13 +456,22 @@ impl<'a> Building<'a> {
 fn joined_by(alloc: Global, lines: usize, arrows: &[Arrow]) -> Result<Vec<bool>, AllocError> {
     let mut joined = filled(alloc, false, lines)?;
     for arrow in arrows {
-        for number in [arrow.from, arrow.to] {
-            if let Some(flag) = joined.get_mut(number) {
-                *flag = true;
-            }
-        }
+        put(&mut joined, arrow.from, true);
+        put(&mut joined, arrow.to, true);
     }
     Ok(joined)
+}
+
+/// Adds the tracks, and what happens on them besides the lines, which are gone through in this order.
+fn add_all<'a>(
+    building: &mut Building<'a>,
+    setting: Setting<'_, 'a>,
+    order: &[usize],
+    arrows: &[Arrow],
+) {
+    building.pass_lines(setting, order);
+    add_waits(&mut building.events, setting);
+    add_flows(&mut building.events, setting, arrows);
 }
 
 /// The tracks, and what happens on them besides the lines, which are gone through in this order.
@@ -483,25 +480,104 @@ fn build<'a>(
     setting: Setting<'_, 'a>,
     order: &[usize],
     arrows: &[Arrow],
-) -> Result<Building<'a>, AllocError> {
+) -> Result<Built<'a>, AllocError> {
     let mut building = Building {
-        tracks: Vec::new(alloc),
-        events: Vec::new(alloc),
-        jobs: HashMap::new(alloc),
+        tracks: Gathered::new(alloc),
+        events: Gathered::new(alloc),
+        jobs: Gathered::new(alloc),
+        numbers: Numbers::new(alloc),
     };
-    for number in order {
-        building.pass_line(setting, *number)?;
+    add_all(&mut building, setting, order, arrows);
+    whole_of(building)
+}
+
+/// The tracks and the events, if memory held all.
+fn whole_of<'a>(building: Building<'a>) -> Result<Built<'a>, AllocError> {
+    let Building {
+        tracks,
+        events,
+        jobs,
+        numbers,
+    } = building;
+    if jobs.full || numbers.full {
+        return Err(AllocError);
     }
-    building.push_last(setting)?;
-    push_waits(&mut building.events, setting)?;
-    push_flows(&mut building.events, setting, arrows)?;
-    Ok(building)
+    Ok((tracks.whole()?, events.whole()?))
 }
 
 fn arrows_in<'a>(alloc: Global, told: &Told<'a>) -> Result<Vec<Arrow>, AllocError> {
-    let notes = told.notes.as_slice();
-    let channels = channels_of(alloc, notes, &told.tables)?;
-    arrows_of(alloc, notes, &told.tables, &channels)
+    let channels = channels_of(alloc, told)?;
+    arrows_of(alloc, told, &channels)
+}
+
+/// The moments of the lines, each with whether an arrow joins it to another.
+fn joined_moments<'a>(
+    alloc: Global,
+    setting: Setting<'_, 'a>,
+    lines: &[Line<'a>],
+    arrows: &[Arrow],
+) -> Result<Vec<Moment<'a>>, AllocError>
+    ensures { IfOk result (λ moments.
+        map (λ m. told m.line) moments.items ≡ filter (is_traced setting.entry.wanted) (told_lines lines.now)) }
+{
+    let joined = joined_by(alloc, setting.places.len(), arrows)?;
+    let moments = moments_in(
+        alloc,
+        setting.wanted,
+        lines,
+        setting.places,
+        joined.as_slice(),
+        setting.names,
+    )?;
+    Ok(moments)
+}
+
+/// The trace, with the lines in this order.
+fn ordered_trace<'a>(
+    alloc: Global,
+    setting: Setting<'_, 'a>,
+    lines: &[Line<'a>],
+    order: &[usize],
+    arrows: &[Arrow],
+) -> Result<Trace<'a>, AllocError>
+    ensures told { IfOk result (λ trace. Tells setting.entry.wanted (told_lines lines.now) trace) }
+    ensures names { IfOk result (λ trace. trace.names.now ≡ setting.entry.names.blocks.now) }
+{
+    let moments = joined_moments(alloc, setting, lines, arrows)?;
+    let (tracks, events) = build(alloc, setting, order, arrows)?;
+    Ok(Trace {
+        names: setting.names.blocks,
+        tracks,
+        moments,
+        events,
+    })
+}
+
+/// The trace of what the lines of the books say.
+fn told_trace<'a>(
+    alloc: Global,
+    wanted: Wanted,
+    names: Names<'a>,
+    lines: &[Line<'a>],
+    told: &Told<'a>,
+) -> Result<Tracing<'a>, AllocError>
+    ensures told { IfOk result (λ tracing. Tells wanted (told_lines lines.now) tracing.trace) }
+    ensures names { IfOk result (λ tracing. tracing.trace.names.now ≡ names.entry.blocks.now) }
+{
+    let arrows = arrows_in(alloc, told)?;
+    let times = times_of(alloc, told)?;
+    let setting = Setting {
+        wanted,
+        places: times.places.as_slice(),
+        told,
+        names,
+    };
+    let order = times.order.as_slice();
+    let trace = ordered_trace(alloc, setting, lines, order, arrows.as_slice())?;
+    Ok(Tracing {
+        trace,
+        in_order: times.in_order,
+    })
 }
 
 /// The trace of a report: each line that is asked for, and what its coroutines and Jobs went through. The names are those of a script
@@ -516,26 +592,6 @@ pub fn trace_of<'a>(
     ensures names { IfOk result (λ tracing. tracing.trace.names.now ≡ names.entry.blocks.now) }
 {
     let told = told_in(alloc, lines)?;
-    let arrows = arrows_in(alloc, &told)?;
-    let times = times_of(alloc, &told)?;
-    let joined = joined_by(alloc, told.notes.len(), arrows.as_slice())?;
-    let places = times.places.as_slice();
-    let moments = moments_in(alloc, wanted, lines, places, joined.as_slice(), names)?;
-    let setting = Setting {
-        wanted,
-        places,
-        told: &told,
-        names,
-    };
-    let built = build(alloc, setting, times.order.as_slice(), arrows.as_slice())?;
-    let Building { tracks, events, .. } = built;
-    Ok(Tracing {
-        trace: Trace {
-            names: names.blocks,
-            tracks,
-            moments,
-            events,
-        },
-        in_order: times.in_order,
-    })
+    let tracing = told_trace(alloc, wanted, names, lines, &told)?;
+    Ok(tracing)
 }
