@@ -1,2 +1,4 @@
+pub mod Families
+pub mod HubPasses
 pub mod ParcelPasses
 pub mod RingPasses

@@ -6,21 +6,17 @@ ghost use Rattle.cell_words.specs.Hubs.{shape_of, IsOwn};
 ghost use Rattle.job_words.specs.Forests.{IsOwn as IsOwnOfJobs};
 ghost use Rattle.future_bridge.specs.Jobs.{jobs_seen};
 
-use crate::job_calls::sees_job;
-use crate::jobs::{ATTACHED_AND_ENDED, Family, attach_and_end, new_family};
+use crate::jobs::is_finished;
 use cell_calls::Desk;
 use cell_words::{Hub, Pass};
 use channel_calls::Caller;
 use co_base::{Memory, Value};
-use floor_tests::forest_shares::{Answer, Call, make_by, meet_both};
 use future_bridge::Spent;
-use job_model::{End, Finished};
 use job_words::{Forest, JobPass};
 use note_book::Notes;
 use ring_bridge::Bells;
 use std::alloc::Global;
 use std::sync::Wait;
-use std::test::Fail;
 use std::thread::{Threads, join, sleep};
 use std::time::{Clock, Duration};
 use waiting::{BellWakes, await_job};
@@ -54,87 +50,67 @@ fn end_later<R: Clock + Wait>(
     mut jobs: JobPass,
     alloc: Global,
     bells: &Bells,
-) -> Result<bool, Memory>
+) -> bool
     requires shape { shape_of hub.now ≡ (Signal, 1) ∷ (Signal, 1) ∷ [] }
     requires own { IsOwn hub.now pass 1 }
     requires size { forest.now.size.coroutines ≡ 2 }
     requires jobs { IsOwnOfJobs forest.now jobs 1 }
 {
     sleep(rt, Duration::from_millis(PAUSE));
-    let finish = Call::Finish { row: 1 };
-    let finished = make_by(forest, 2, &mut jobs, alloc, 1, finish)?;
-    let open = close_done(hub, &mut pass, alloc, bells)?;
-    Ok(open && finished == Answer::Finished(Finished::Now(End::Completed(9))))
+    let finished = is_finished(alloc, forest, &mut jobs);
+    let open = close_done(hub, &mut pass, alloc, bells);
+    finished && matches!(open, Ok(true))
 }
 
-/// What the root has of the Job, which ends meanwhile; and whether it had not ended.
-fn awaited_meanwhile<R: Threads + Wait + Sync + Clock>(
+/// What the Job that the root has seen attached gives it.
+fn awaits<R: Wait>(
     rt: &R,
-    family: Family,
+    hub: &Hub,
+    bells: &Bells,
+    pass: Pass,
+    forest: &Forest,
+    jobs: JobPass,
+) -> Result<Value, Spent>
+    requires shape { shape_of hub.now ≡ (Signal, 1) ∷ (Signal, 1) ∷ [] }
+    requires own { IsOwn hub.now pass 0 }
+    requires jobs { IsOwnOfJobs forest.now jobs 0 }
+    requires attached { is_some (replay (jobs_seen jobs).seen 1) ≡ true }
+{
+    let (_pass, _jobs, result) = await_job(rt, hub, bells, pass, forest, jobs, 0, 0, 1);
+    result
+}
+
+/// Whether the root has 9 of the Job, which ends meanwhile.
+pub(crate) fn awaited_meanwhile<R: Threads + Wait + Sync + Clock>(
+    rt: &R,
+    hub: &Hub,
+    forest: &Forest,
+    root: (Pass, JobPass),
+    child: (Pass, JobPass),
     alloc: Global,
     bells: &Bells,
-) -> (Result<Value, Spent>, Result<bool, Memory>)
-    requires shape { shape_of family.hub ≡ (Signal, 1) ∷ (Signal, 1) ∷ [] }
-    requires size { family.forest.size.coroutines ≡ 2 }
-    requires root { IsOwn family.hub family.root 0 }
-    requires root_jobs { IsOwnOfJobs family.forest family.root_jobs 0 }
-    requires attached { is_some (replay (jobs_seen family.root_jobs).seen 1) ≡ true }
-    requires child { IsOwn family.hub family.child 1 }
-    requires child_jobs { IsOwnOfJobs family.forest family.child_jobs 1 }
+) -> bool
+    requires shape { shape_of hub.now ≡ (Signal, 1) ∷ (Signal, 1) ∷ [] }
+    requires size { forest.now.size.coroutines ≡ 2 }
+    requires root { IsOwn hub.now root.0 0 × IsOwnOfJobs forest.now root.1 0 }
+    requires attached { is_some (replay (jobs_seen root.1).seen 1) ≡ true }
+    requires child { IsOwn hub.now child.0 1 × IsOwnOfJobs forest.now child.1 1 }
 {
-    let Family {
-        hub,
-        forest,
-        root,
-        root_jobs,
-        child,
-        child_jobs,
-    } = family;
-    let (hub, forest) = (&hub, &forest);
-    let ((_pass, _jobs, result), ended) = join(
+    let ((root, root_jobs), (child, child_jobs)) = (root, child);
+    let (result, ended) = join(
         rt,
-        || -> (Pass, JobPass, Result<Value, Spent>)
+        || -> Result<Value, Spent>
             requires shape { shape_of hub.now ≡ (Signal, 1) ∷ (Signal, 1) ∷ [] }
             requires own { IsOwn hub.now root 0 }
             requires jobs { IsOwnOfJobs forest.now root_jobs 0 }
             requires attached { is_some (replay (jobs_seen root_jobs).seen 1) ≡ true }
-        { await_job(rt, hub, bells, root, forest, root_jobs, 0, 0, 1) },
-        || -> Result<bool, Memory>
+        { awaits(rt, hub, bells, root, forest, root_jobs) },
+        || -> bool
             requires shape { shape_of hub.now ≡ (Signal, 1) ∷ (Signal, 1) ∷ [] }
             requires own { IsOwn hub.now child 1 }
             requires size { forest.now.size.coroutines ≡ 2 }
             requires jobs { IsOwnOfJobs forest.now child_jobs 1 }
         { end_later(rt, hub, child, forest, child_jobs, alloc, bells) },
     );
-    (result, ended)
-}
-
-#[test]
-fn a_thread_sleeps_until_the_job_that_it_awaits_has_ended(rt: HostRuntime) -> Result<(), Fail> {
-    let bells = Bells::new(rt.alloc())?;
-    let Family {
-        hub,
-        forest,
-        root,
-        mut root_jobs,
-        child,
-        mut child_jobs,
-    } = new_family(rt.alloc())?;
-    let answers = attach_and_end(rt.alloc(), &forest, &mut root_jobs, &mut child_jobs)?;
-    meet_both(&forest, &mut root_jobs, 0, &mut child_jobs, 1);
-    if !sees_job(&forest, &mut root_jobs, 0, 1) {
-        panic!(rt; "attached");
-    }
-    let family = Family {
-        hub,
-        forest,
-        root,
-        root_jobs,
-        child,
-        child_jobs,
-    };
-    let (result, ended) = awaited_meanwhile(&rt, family, rt.alloc(), &bells);
-    assert!(rt; answers == ATTACHED_AND_ENDED);
-    assert_eq!(rt; (result, ended?), (Ok(9), true));
-    Ok(())
+    ended && matches!(result, Ok(9))
 }

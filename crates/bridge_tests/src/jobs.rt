@@ -1,9 +1,13 @@
-//! What futures of Jobs give. The passes of each table meet before each call.
-ghost use Rattle.std.specs.Prelude.{◌≡◌, ◌∷◌, [], IfOk, false};
+//! What futures of Jobs give, and a thread that sleeps until a Job has ended. The passes meet before each call.
+ghost use Rattle.std.specs.Prelude.{◌≡◌, ◌∷◌, [], IfOk, IfSome, true, is_some};
 ghost use Rattle.channel_model.specs.declared.acts.Kind.TheVariants.{Signal};
+ghost use Rattle.job_model.specs.Histories.{replay};
 ghost use Rattle.cell_words.specs.Hubs.{shape_of, IsOwn};
 ghost use Rattle.job_words.specs.Forests.{IsOwn as IsOwnOfJobs};
+ghost use Rattle.future_bridge.specs.Jobs.{FutureStands, jobs_seen};
+ghost use Rattle.bridge_tests.specs.Families.{IsFamily};
 
+use crate::asleep::awaited_meanwhile;
 use crate::job_calls::sees_job;
 use crate::pass_calls::{end_at, meet_passes};
 use cell_calls::{close, receive};
@@ -16,52 +20,56 @@ use futures::Future;
 use futures::task::{Context, Poll};
 use job_model::{Attached, End, Ended, Finished, JobKind};
 use job_words::{Forest, JobPass};
+use ring_bridge::Bells;
 use std::alloc::{AllocGlobal, Global};
 use std::random::RandomSource;
 use std::sync::Wait;
 use std::test::Fail;
+use std::thread::Threads;
+use std::time::Clock;
 
-/// Two done channels of one place, two coroutines, and the passes of both.
+/// The passes of the root and of the other coroutine.
 #[derive(Drop)]
 pub(crate) struct Family {
-    pub hub: Hub,
-    pub forest: Forest,
     pub root: Pass,
     pub root_jobs: JobPass,
     pub child: Pass,
     pub child_jobs: JobPass,
 }
 
-/// The root, with the other tag not attached yet.
-pub(crate) fn new_family(alloc: Global) -> Result<Family, Memory>
-    ensures shape { IfOk result (λ f. shape_of f.hub ≡ (Signal, 1) ∷ (Signal, 1) ∷ []) }
-    ensures size { IfOk result (λ f. f.forest.size.coroutines ≡ 2) }
-    ensures root { IfOk result (λ f. IsOwn f.hub f.root 0) }
-    ensures root_jobs { IfOk result (λ f. IsOwnOfJobs f.forest f.root_jobs 0) }
-    ensures child { IfOk result (λ f. IsOwn f.hub f.child 1) }
-    ensures child_jobs { IfOk result (λ f. IsOwnOfJobs f.forest f.child_jobs 1) }
+/// What is checked: the functions of these names.
+#[derive(Clone, Copy)]
+enum Check {
+    AJobThatEndsWhileItsFutureWaitsGivesItsResult,
+    AJobThatEndedGivesItsResult,
+    AJobWhoseDoneChannelIsSpentGivesNoResult,
+    AThreadSleepsUntilTheJobThatItAwaitsHasEnded,
+}
+
+/// Two done channels of one place and two coroutines, of which the root has attached none.
+fn new_family(alloc: Global) -> Result<(Hub, Forest, Family), Memory>
+    ensures family { IfOk result (λ r. IsFamily r.0 r.1 r.2.root r.2.root_jobs r.2.child r.2.child_jobs) }
 {
     let (hub, mut root) = Hub::new(alloc, &[(Kind::Signal, 1), (Kind::Signal, 1)])?;
     let child = hub.split(&mut root, 1);
     let (forest, mut root_jobs) = new_forest(alloc, 2, 0)?;
     let child_jobs = split_off(&forest, &mut root_jobs, 1);
-    Ok(Family {
-        hub,
-        forest,
+    let family = Family {
         root,
         root_jobs,
         child,
         child_jobs,
-    })
+    };
+    Ok((hub, forest, family))
 }
 
-/// The root attaches the other coroutine, whose body then ends with 9: both answers.
-pub(crate) fn attach_and_end(
+/// The root attaches the other coroutine, whose body then ends with 9: whether the tag was free, and no child lives.
+fn is_attached_and_ended(
     alloc: Global,
     forest: &Forest,
     root: &mut JobPass,
     child: &mut JobPass,
-) -> Result<(Answer, Answer), Memory>
+) -> bool
     requires size { forest.now.size.coroutines ≡ 2 }
     requires root { IsOwnOfJobs forest.now root.old 0 }
     requires child { IsOwnOfJobs forest.now child.old 1 }
@@ -78,7 +86,7 @@ pub(crate) fn attach_and_end(
         kind,
         tag: 1,
     };
-    let attached = make_by(forest, 2, root, alloc, 0, attach)?;
+    let attached = make_by(forest, 2, root, alloc, 0, attach);
     meet_both(forest, root, 0, child, 1);
     let ended = make_by(
         forest,
@@ -87,34 +95,40 @@ pub(crate) fn attach_and_end(
         alloc,
         1,
         Call::EndBody { row: 1, value: 9 },
-    )?;
-    Ok((attached, ended))
+    );
+    let free = matches!(
+        attached,
+        Ok(Answer::Attached(Ok(Attached {
+            row: 1,
+            cancelled: false,
+        })))
+    );
+    free && matches!(ended, Ok(Answer::Ended(Ended::Owes)))
 }
 
-/// What both calls answer if the tag was free and no child lives.
-pub(crate) const ATTACHED_AND_ENDED: (Answer, Answer) = (
-    Answer::Attached(Ok(Attached {
-        row: 1,
-        cancelled: false,
-    })),
-    Answer::Ended(Ended::Owes),
-);
-
-/// The Finish of the other coroutine's Job.
-fn finish_child(
-    alloc: Global,
-    forest: &Forest,
-    root: &mut JobPass,
-    child: &mut JobPass,
-) -> Result<Answer, Memory>
+/// Ends the Job of the other coroutine. Answers whether it had not ended.
+pub(crate) fn is_finished(alloc: Global, forest: &Forest, child: &mut JobPass) -> bool
     requires size { forest.now.size.coroutines ≡ 2 }
+    requires child { IsOwnOfJobs forest.now child.old 1 }
+    ensures child { IsOwnOfJobs forest.now child.new 1 }
+{
+    let finished = make_by(forest, 2, child, alloc, 1, Call::Finish { row: 1 });
+    matches!(
+        finished,
+        Ok(Answer::Finished(Finished::Now(End::Completed(9))))
+    )
+}
+
+/// Whether the root has seen the other coroutine attached, once the two have met.
+fn sees_child(forest: &Forest, root: &mut JobPass, child: &mut JobPass) -> bool
     requires root { IsOwnOfJobs forest.now root.old 0 }
     requires child { IsOwnOfJobs forest.now child.old 1 }
     ensures root { IsOwnOfJobs forest.now root.new 0 }
     ensures child { IsOwnOfJobs forest.now child.new 1 }
+    ensures attached { result ≡ true → is_some (replay (jobs_seen root.new).seen 1) ≡ true }
 {
     meet_both(forest, root, 0, child, 1);
-    make_by(forest, 2, child, alloc, 1, Call::Finish { row: 1 })
+    sees_job(forest, root, 0, 1)
 }
 
 /// What the Job of the other coroutine gives the root. None: the root has not seen it attached, or the drive failed.
@@ -123,7 +137,7 @@ fn awaited<R: Wait + RandomSource + AllocGlobal>(
     hub: &Hub,
     root: Pass,
     forest: &Forest,
-    root_jobs: JobPass,
+    mut root_jobs: JobPass,
     child_jobs: &mut JobPass,
 ) -> Option<Result<Value, Spent>>
     requires shape { shape_of hub.now ≡ (Signal, 1) ∷ (Signal, 1) ∷ [] }
@@ -131,9 +145,7 @@ fn awaited<R: Wait + RandomSource + AllocGlobal>(
     requires root_jobs { IsOwnOfJobs forest.now root_jobs 0 }
     requires child_jobs { IsOwnOfJobs forest.now child_jobs.old 1 }
 {
-    let mut root_jobs = root_jobs;
-    meet_both(forest, &mut root_jobs, 0, child_jobs, 1);
-    if !sees_job(forest, &mut root_jobs, 0, 1) {
+    if !sees_child(forest, &mut root_jobs, child_jobs) {
         return None;
     }
     let mut host = HostDrive::new(rt);
@@ -173,86 +185,194 @@ impl<'hub, 'forest> Future for PolledOnce<'hub, 'forest> {
     }
 }
 
-#[test]
-fn a_job_that_ends_while_its_future_waits_gives_its_result(rt: HostRuntime) -> Result<(), Fail> {
+/// A poll of the future: the future, if that was pending; and else what it gave.
+fn polled<'hub, 'forest, R: Wait + RandomSource + AllocGlobal>(
+    rt: &R,
+    future: JobFuture<'hub, 'forest>,
+) -> (
+    Option<JobFuture<'hub, 'forest>>,
+    Option<Result<Value, Spent>>,
+)
+    requires stands { FutureStands future }
+    ensures stands { IfSome result.0 FutureStands }
+{
+    let mut host = HostDrive::new(rt);
+    let once = PolledOnce {
+        future: Some(future),
+    };
+    match host.drive(once) {
+        Ok(polled) => polled,
+        Err(_) => (None, None),
+    }
+}
+
+/// A Job that ends while its future waits gives its result.
+fn ends_while_awaited<R: Wait + RandomSource + AllocGlobal>(
+    rt: &R,
+    hub: &Hub,
+    forest: &Forest,
+    family: Family,
+) -> bool
+    requires family { IsFamily hub.now forest.now family.root family.root_jobs family.child family.child_jobs }
+{
     let Family {
-        hub,
-        forest,
         root,
         mut root_jobs,
         mut child,
         mut child_jobs,
-    } = new_family(rt.alloc())?;
-    let answers = attach_and_end(rt.alloc(), &forest, &mut root_jobs, &mut child_jobs)?;
-    assert!(rt; answers == ATTACHED_AND_ENDED);
-    meet_both(&forest, &mut root_jobs, 0, &mut child_jobs, 1);
-    if !sees_job(&forest, &mut root_jobs, 0, 1) {
-        panic!(rt; "attached");
+    } = family;
+    if !sees_child(forest, &mut root_jobs, &mut child_jobs) {
+        return false;
     }
-    let future = JobFuture::new(&hub, root, &forest, root_jobs, 0, 0, 1);
-    let mut host = HostDrive::new(&rt);
-    let once = PolledOnce {
-        future: Some(future),
+    let future = JobFuture::new(hub, root, forest, root_jobs, 0, 0, 1);
+    let (Some(future), _) = polled(rt, future) else {
+        return false;
     };
-    let Ok((Some(future), None)) = host.drive(once) else {
-        panic!(rt; "left waiting");
+    let (Some(future), _) = polled(rt, future) else {
+        return false;
     };
-    let again = PolledOnce {
-        future: Some(future),
-    };
-    let Ok((Some(future), None)) = host.drive(again) else {
-        panic!(rt; "left waiting again");
-    };
-    let finish = Call::Finish { row: 1 };
-    let finished = make_by(&forest, 2, &mut child_jobs, rt.alloc(), 1, finish)?;
-    let open = end_at(&hub, &mut child, 1, 1, 9);
-    let last = PolledOnce {
-        future: Some(future),
-    };
-    let Ok((None, result)) = host.drive(last) else {
-        panic!(rt; "ended");
-    };
-    assert!(rt; finished == Answer::Finished(Finished::Now(End::Completed(9))));
-    assert_eq!(rt; (open, result), (true, Some(Ok(9))));
-    Ok(())
+    let finished = is_finished(rt.alloc(), forest, &mut child_jobs);
+    let open = end_at(hub, &mut child, 1, 1, 9);
+    let (_none, result) = polled(rt, future);
+    finished && open && matches!(result, Some(Ok(9)))
 }
 
-#[test]
-fn a_job_that_ended_gives_its_result(rt: HostRuntime) -> Result<(), Fail> {
+/// A Job that ended gives its result.
+fn ended_before<R: Wait + RandomSource + AllocGlobal>(
+    rt: &R,
+    hub: &Hub,
+    forest: &Forest,
+    family: Family,
+) -> bool
+    requires family { IsFamily hub.now forest.now family.root family.root_jobs family.child family.child_jobs }
+{
     let Family {
-        hub,
-        forest,
         mut root,
         mut root_jobs,
         mut child,
         mut child_jobs,
-    } = new_family(rt.alloc())?;
-    let answers = attach_and_end(rt.alloc(), &forest, &mut root_jobs, &mut child_jobs)?;
-    let finished = finish_child(rt.alloc(), &forest, &mut root_jobs, &mut child_jobs)?;
-    meet_passes(&hub, &mut root, 0, &mut child, 1);
-    let closed = close(&hub, &mut child, 1, 1, 9);
-    let result = awaited(&rt, &hub, root, &forest, root_jobs, &mut child_jobs);
-    let completed = Answer::Finished(Finished::Now(End::Completed(9)));
-    assert!(rt; answers == ATTACHED_AND_ENDED && finished == completed);
-    assert_eq!(rt; (closed, result), (Ok(()), Some(Ok(9))));
-    Ok(())
+    } = family;
+    meet_both(forest, &mut root_jobs, 0, &mut child_jobs, 1);
+    let finished = is_finished(rt.alloc(), forest, &mut child_jobs);
+    meet_passes(hub, &mut root, 0, &mut child, 1);
+    let closed = close(hub, &mut child, 1, 1, 9).is_ok();
+    let result = awaited(rt, hub, root, forest, root_jobs, &mut child_jobs);
+    finished && closed && matches!(result, Some(Ok(9)))
+}
+
+/// A Job whose done channel is spent gives no result.
+fn spent_before<R: Wait + RandomSource + AllocGlobal>(
+    rt: &R,
+    hub: &Hub,
+    forest: &Forest,
+    family: Family,
+) -> bool
+    requires family { IsFamily hub.now forest.now family.root family.root_jobs family.child family.child_jobs }
+{
+    let Family {
+        mut root,
+        root_jobs,
+        mut child,
+        mut child_jobs,
+    } = family;
+    meet_passes(hub, &mut root, 0, &mut child, 1);
+    let waits = receive(hub, &mut child, 1, 1);
+    let result = awaited(rt, hub, root, forest, root_jobs, &mut child_jobs);
+    matches!(waits, Got::Waiting(0)) && matches!(result, Some(Err(Spent)))
+}
+
+/// A thread sleeps until the Job that it awaits has ended.
+fn sleeps<R: Threads + Wait + Sync + Clock + AllocGlobal>(
+    rt: &R,
+    hub: &Hub,
+    forest: &Forest,
+    bells: &Bells,
+    family: Family,
+) -> bool
+    requires family { IsFamily hub.now forest.now family.root family.root_jobs family.child family.child_jobs }
+{
+    let Family {
+        root,
+        mut root_jobs,
+        child,
+        mut child_jobs,
+    } = family;
+    if !sees_child(forest, &mut root_jobs, &mut child_jobs) {
+        return false;
+    }
+    let mine = (root, root_jobs);
+    awaited_meanwhile(
+        rt,
+        hub,
+        forest,
+        mine,
+        (child, child_jobs),
+        rt.alloc(),
+        bells,
+    )
+}
+
+/// Whether this check went as its name says, once the root has attached the other coroutine, whose body has ended.
+fn went<R: Threads + Wait + RandomSource + Sync + Clock + AllocGlobal>(
+    rt: &R,
+    hub: &Hub,
+    forest: &Forest,
+    bells: &Bells,
+    family: Family,
+    check: Check,
+) -> bool
+    requires family { IsFamily hub.now forest.now family.root family.root_jobs family.child family.child_jobs }
+{
+    let mut family = family;
+    if !is_attached_and_ended(
+        rt.alloc(),
+        forest,
+        &mut family.root_jobs,
+        &mut family.child_jobs,
+    ) {
+        return false;
+    }
+    match check {
+        Check::AJobThatEndsWhileItsFutureWaitsGivesItsResult => {
+            ends_while_awaited(rt, hub, forest, family)
+        }
+        Check::AJobThatEndedGivesItsResult => ended_before(rt, hub, forest, family),
+        Check::AJobWhoseDoneChannelIsSpentGivesNoResult => spent_before(rt, hub, forest, family),
+        Check::AThreadSleepsUntilTheJobThatItAwaitsHasEnded => {
+            sleeps(rt, hub, forest, bells, family)
+        }
+    }
+}
+
+/// The same of a family of its own.
+fn goes<R: Threads + Wait + RandomSource + Sync + Clock + AllocGlobal>(
+    rt: &R,
+    bells: &Bells,
+    check: Check,
+) -> bool {
+    match new_family(rt.alloc()) {
+        Ok((hub, forest, family)) => went(rt, &hub, &forest, bells, family, check),
+        Err(_) => false,
+    }
 }
 
 #[test]
-fn a_job_whose_done_channel_is_spent_gives_no_result(rt: HostRuntime) -> Result<(), Fail> {
-    let Family {
-        hub,
-        forest,
-        mut root,
-        mut root_jobs,
-        mut child,
-        mut child_jobs,
-    } = new_family(rt.alloc())?;
-    let answers = attach_and_end(rt.alloc(), &forest, &mut root_jobs, &mut child_jobs)?;
-    meet_passes(&hub, &mut root, 0, &mut child, 1);
-    let waits = receive(&hub, &mut child, 1, 1);
-    let result = awaited(&rt, &hub, root, &forest, root_jobs, &mut child_jobs);
-    assert!(rt; answers == ATTACHED_AND_ENDED);
-    assert_eq!(rt; (waits, result), (Got::Waiting(0), Some(Err(Spent))));
+fn each_check_goes_as_its_name_says(rt: HostRuntime) -> Result<(), Fail> {
+    let bells = Bells::new(rt.alloc())?;
+    let found = [
+        goes(
+            &rt,
+            &bells,
+            Check::AJobThatEndsWhileItsFutureWaitsGivesItsResult,
+        ),
+        goes(&rt, &bells, Check::AJobThatEndedGivesItsResult),
+        goes(&rt, &bells, Check::AJobWhoseDoneChannelIsSpentGivesNoResult),
+        goes(
+            &rt,
+            &bells,
+            Check::AThreadSleepsUntilTheJobThatItAwaitsHasEnded,
+        ),
+    ];
+    assert_eq!(rt; found, [true; 4]);
     Ok(())
 }

@@ -2,12 +2,13 @@
 //! channels of owned values and of rings.
 //!
 //! - `pass_calls`: offers, receives and closes of one pass
+//! - `one_channel`: the checks of `streams`, `lists`, `together` and `at_once`
 //! - `streams`: what streams give
 //! - `lists`: what comes of a list that is sent
-//! - `job_calls`: whether a pass of a forest has seen a Job attached
-//! - `jobs`: what futures of Jobs give
 //! - `together`: a sender and a receiver under one drive
 //! - `at_once`: a sender and a receiver by a thread each
+//! - `job_calls`: whether a pass of a forest has seen a Job attached
+//! - `jobs`: what futures of Jobs give
 //! - `asleep`: a thread that sleeps until a Job has ended
 //! - `permits_wake`: whom a release of a permit wakes
 //! - `parcels`: channels of owned values
@@ -24,6 +25,8 @@ mod job_calls;
 mod jobs;
 #[cfg(test)]
 mod lists;
+#[cfg(test)]
+mod one_channel;
 mod parcels;
 #[cfg(test)]
 mod pass_calls;

@@ -1,79 +1,93 @@
 //! What comes of a list that is sent.
+ghost use Rattle.std.specs.Prelude.{◌≡◌, ◌<◌, false, length};
+ghost use Rattle.channel_model.specs.Channels.{kind_at, is_signal};
+ghost use Rattle.cell_words.specs.Hubs.{shape_of, IsOwn};
+ghost use Rattle.bridge_tests.specs.HubPasses.{AreTwo};
 
+use crate::at_once::send_all;
 use crate::pass_calls::{end, wait};
-use crate::streams::Refuses;
+use crate::streams::{Refuses, collects};
 use cell_words::{Hub, Pass};
-use channel_model::{Got, Kind};
-use future_bridge::{HostDrive, ListFault, SinkFault, collect_all, send_list};
-use std::test::Fail;
+use channel_model::Got;
+use co_base::Value;
+use future_bridge::{HostDrive, ListFault, SinkFault, send_list};
+use std::alloc::AllocGlobal;
+use std::random::RandomSource;
+use std::sync::Wait;
 
-/// The fault at which a list ended.
-fn fault_of(sent: Result<Pass, ListFault>) -> Option<SinkFault> {
-    match sent {
+/// The fault at which the list ends that the pass of tag 1 sends.
+fn fault_of<R: Wait + RandomSource + AllocGlobal>(
+    rt: &R,
+    hub: &Hub,
+    pass: Pass,
+    values: &[Value],
+) -> Option<SinkFault>
+    requires own { IsOwn hub.now pass 1 }
+    requires channel { 0 < length (shape_of hub.now) }
+    requires kind { is_signal (kind_at (shape_of hub.now) 0) ≡ false }
+{
+    let mut host = HostDrive::new(rt);
+    match send_list(&mut host, hub, pass, 1, 0, values) {
         Err(ListFault::Sink { pass: _pass, fault }) => Some(fault),
         Err(ListFault::Failed) => None,
         Ok(_pass) => None,
     }
 }
 
-#[test]
-fn a_list_is_sent_in_order(rt: HostRuntime) -> Result<(), Fail> {
-    let kinds = [(Kind::Unlimited, 4u32)];
-    let (hub, mut main) = Hub::new(rt.alloc(), &kinds)?;
-    let a = hub.split(&mut main, 1);
-    let b = hub.split(&mut main, 2);
-    let mut host = HostDrive::new(&rt);
-    let values = [1u32, 2, 3];
-    let Ok(mut a) = send_list(&mut host, &hub, a, 1, 0, &values) else {
-        panic!(rt; "sent");
-    };
-    assert!(rt; end(&hub, &mut a, 1, 0));
-    let Ok((_pass, items)) = collect_all(rt.alloc(), &mut host, &hub, b, 2, 0) else {
-        panic!(rt; "collected");
-    };
-    assert_eq!(rt; items.as_slice(), [Ok(1), Ok(2), Ok(3)].as_slice());
-    Ok(())
+/// A list is sent in order.
+pub(crate) fn is_sent<R: Wait + RandomSource + AllocGlobal>(
+    rt: &R,
+    hub: &Hub,
+    one: Pass,
+    two: Pass,
+) -> bool
+    requires two { AreTwo hub.now one two }
+{
+    let values = [1, 2, 3];
+    let sent = send_all(rt, hub, one, &values);
+    let wanted = [Ok(1), Ok(2), Ok(3)];
+    let came = collects(rt, hub, two, 2, &wanted);
+    sent && came
 }
 
-#[test]
-fn a_list_is_not_sent_to_a_closed_channel(rt: HostRuntime) -> Result<(), Fail> {
-    let kinds = [(Kind::Unlimited, 4u32)];
-    let (hub, mut main) = Hub::new(rt.alloc(), &kinds)?;
-    let a = hub.split(&mut main, 1);
-    let mut b = hub.split(&mut main, 2);
-    assert!(rt; end(&hub, &mut b, 2, 4));
-    let mut host = HostDrive::new(&rt);
-    let values = [1u32];
-    let fault = fault_of(send_list(&mut host, &hub, a, 1, 0, &values));
-    assert_eq!(rt; fault, Some(SinkFault::Closed { value: 1, v: 4 }));
-    Ok(())
+/// A list is not sent to a closed channel.
+pub(crate) fn is_not_sent<R: Wait + RandomSource + AllocGlobal>(
+    rt: &R,
+    hub: &Hub,
+    one: Pass,
+    mut two: Pass,
+) -> bool
+    requires two { AreTwo hub.now one two }
+{
+    let closed = end(hub, &mut two, 2, 4);
+    let values = [1];
+    let fault = fault_of(rt, hub, one, &values);
+    closed && matches!(fault, Some(SinkFault::Closed { value: 1, v: 4 }))
 }
 
-#[test]
-fn a_list_ends_where_no_place_is_left(rt: HostRuntime) -> Result<(), Fail> {
-    let kinds = [(Kind::Unlimited, 1u32)];
-    let (hub, mut main) = Hub::new(rt.alloc(), &kinds)?;
-    let a = hub.split(&mut main, 1);
-    let mut host = HostDrive::new(&rt);
-    let values = [1u32, 2];
-    let fault = fault_of(send_list(&mut host, &hub, a, 1, 0, &values));
-    assert_eq!(rt; fault, Some(SinkFault::Spent { value: 2 }));
-    Ok(())
+/// A list ends where no place is left.
+pub(crate) fn ends<R: Wait + RandomSource + AllocGlobal>(
+    rt: &R,
+    hub: &Hub,
+    one: Pass,
+    _two: Pass,
+) -> bool
+    requires two { AreTwo hub.now one _two }
+{
+    let values = [1, 2];
+    let fault = fault_of(rt, hub, one, &values);
+    matches!(fault, Some(SinkFault::Spent { value: 2 }))
 }
 
-#[test]
-fn a_list_whose_drive_fails_is_not_sent(rt: HostRuntime) -> Result<(), Fail> {
-    let kinds = [(Kind::Unlimited, 4u32)];
-    let (hub, mut main) = Hub::new(rt.alloc(), &kinds)?;
-    let a = hub.split(&mut main, 1);
-    let mut b = hub.split(&mut main, 2);
+/// A list whose drive fails is not sent.
+pub(crate) fn fails(hub: &Hub, one: Pass, mut two: Pass) -> bool
+    requires two { AreTwo hub.now one two }
+{
     let mut refuses = Refuses { calls: 0 };
-    let values = [1u32];
+    let values = [1];
     let failed = matches!(
-        send_list(&mut refuses, &hub, a, 1, 0, &values),
+        send_list(&mut refuses, hub, one, 1, 0, &values),
         Err(ListFault::Failed)
     );
-    assert!(rt; failed);
-    assert_eq!(rt; wait(&hub, &mut b, 2), Got::Waiting(0));
-    Ok(())
+    failed && matches!(wait(hub, &mut two, 2), Got::Waiting(0))
 }

@@ -7,11 +7,14 @@
 //! - `explored`: by up to four threads that wait, give up and close, on one, two and three slots
 //! - `who_sleeps`: by threads that sleep, and by a stream and a sink
 //! - `selects`, `handings`: a select over two rings, and a rendezvous
+//! - `on_bells`: the checks of `who_sleeps`, `selects`, `handings` and `explored`
 
 #[cfg(test)]
 mod explored;
 #[cfg(test)]
 mod handings;
+#[cfg(test)]
+mod on_bells;
 #[cfg(test)]
 mod ring_calls;
 #[cfg(test)]

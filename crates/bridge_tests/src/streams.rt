@@ -1,14 +1,20 @@
 //! What streams give.
+ghost use Rattle.std.specs.Prelude.{◌≡◌, ◌<◌, length, IfSome};
+ghost use Rattle.cell_words.specs.Hubs.{shape_of, IsOwn};
+ghost use Rattle.future_bridge.specs.Streams.{Stands};
+ghost use Rattle.bridge_tests.specs.HubPasses.{AreTwo};
 
 use crate::pass_calls::{send, send_both, wait};
-use cell_words::Hub;
-use channel_model::{Got, Kind, Offered};
-use co_base::{Failed, Value};
+use cell_words::{Hub, Pass};
+use channel_model::{Got, Offered};
+use co_base::{Failed, Tag, Value};
 use future_bridge::{Drive, DriveError, HostDrive, ReceiveStream, Spent, Stopped, collect_all};
 use futures::future::{Either, ready, select};
 use futures::task::{Context, Poll};
 use futures::{Future, Stream, StreamExt};
-use std::test::Fail;
+use std::alloc::AllocGlobal;
+use std::random::RandomSource;
+use std::sync::Wait;
 
 /// A drive that fails at each call.
 #[derive(Drop)]
@@ -52,149 +58,206 @@ impl<'a> Future for PolledOnce<'a> {
     }
 }
 
-#[test]
-fn all_elements_of_a_closed_channel_come_in_order(rt: HostRuntime) -> Result<(), Fail> {
-    let kinds = [(Kind::Buffered(2), 4u32)];
-    let (hub, mut main) = Hub::new(rt.alloc(), &kinds)?;
-    let mut a = hub.split(&mut main, 1);
-    let b = hub.split(&mut main, 2);
-    let sent = send_both(&hub, &mut a, 1, 7, 8);
-    let mut host = HostDrive::new(&rt);
-    let Ok((_pass, items)) = collect_all(rt.alloc(), &mut host, &hub, b, 2, 0) else {
-        panic!(rt; "collected");
-    };
-    let found = (sent, items.as_slice(), host.faults());
-    assert_eq!(rt; found, (true, [Ok(7), Ok(8)].as_slice(), 0));
-    Ok(())
-}
-
-#[test]
-fn the_fault_is_the_last_item(rt: HostRuntime) -> Result<(), Fail> {
-    let kinds = [(Kind::Rendezvous, 1u32)];
-    let (hub, mut main) = Hub::new(rt.alloc(), &kinds)?;
-    let mut a = hub.split(&mut main, 1);
-    let b = hub.split(&mut main, 2);
-    let waits = wait(&hub, &mut a, 1);
-    let mut host = HostDrive::new(&rt);
-    let Ok((_pass, items)) = collect_all(rt.alloc(), &mut host, &hub, b, 2, 0) else {
-        panic!(rt; "collected");
-    };
-    let found = (waits, items.as_slice());
-    assert_eq!(rt; found, (Got::Waiting(0), [Err(Spent)].as_slice()));
-    Ok(())
-}
-
-#[test]
-fn a_stream_that_is_stopped_gives_its_element_up(rt: HostRuntime) -> Result<(), Fail> {
-    let kinds = [(Kind::Rendezvous, 4u32)];
-    let (hub, mut main) = Hub::new(rt.alloc(), &kinds)?;
-    let a = hub.split(&mut main, 1);
-    let mut b = hub.split(&mut main, 2);
-    let idle = hub.split(&mut main, 3);
-    let mut host = HostDrive::new(&rt);
+/// A poll of the stream: the stream, whether the poll was pending, and the item that it gave.
+fn polled<'a, R: Wait + RandomSource + AllocGlobal>(
+    rt: &R,
+    stream: ReceiveStream<'a>,
+) -> Option<(ReceiveStream<'a>, bool, Option<Result<Value, Spent>>)>
+    requires stands { Stands stream }
+    ensures stands { IfSome result (λ r. Stands r.0) }
+{
+    let mut host = HostDrive::new(rt);
     let once = PolledOnce {
-        stream: Some(ReceiveStream::new(&hub, a, 1, 0)),
+        stream: Some(stream),
     };
-    let Ok((stream, pending, _item)) = host.drive(once) else {
-        panic!(rt; "driven");
+    match host.drive(once) {
+        Ok(polled) => Some(polled),
+        Err(_) => None,
+    }
+}
+
+/// Whether all elements are these, and the drive never failed.
+pub(crate) fn collects<R: Wait + RandomSource + AllocGlobal>(
+    rt: &R,
+    hub: &Hub,
+    pass: Pass,
+    who: Tag,
+    wanted: &[Result<Value, Spent>],
+) -> bool
+    requires own { IsOwn hub.now pass who }
+    requires channel { 0 < length (shape_of hub.now) }
+{
+    let mut host = HostDrive::new(rt);
+    match collect_all(rt.alloc(), &mut host, hub, pass, who, 0) {
+        Ok((_pass, items)) => items.as_slice() == wanted && host.faults() == 0,
+        Err(_fault) => false,
+    }
+}
+
+/// All elements of a closed channel come in order.
+pub(crate) fn all_come<R: Wait + RandomSource + AllocGlobal>(
+    rt: &R,
+    hub: &Hub,
+    mut one: Pass,
+    two: Pass,
+) -> bool
+    requires two { AreTwo hub.now one two }
+{
+    let sent = send_both(hub, &mut one, 1, 7, 8);
+    let wanted = [Ok(7), Ok(8)];
+    let came = collects(rt, hub, two, 2, &wanted);
+    sent && came
+}
+
+/// The fault is the last item.
+pub(crate) fn fault_is_last<R: Wait + RandomSource + AllocGlobal>(
+    rt: &R,
+    hub: &Hub,
+    mut one: Pass,
+    two: Pass,
+) -> bool
+    requires two { AreTwo hub.now one two }
+{
+    let waits = wait(hub, &mut one, 1);
+    let wanted = [Err(Spent)];
+    let came = collects(rt, hub, two, 2, &wanted);
+    matches!(waits, Got::Waiting(0)) && came
+}
+
+/// A stream that is stopped gives its element up.
+pub(crate) fn is_stopped<R: Wait + RandomSource + AllocGlobal>(
+    rt: &R,
+    hub: &Hub,
+    one: Pass,
+    mut two: Pass,
+) -> bool
+    requires two { AreTwo hub.now one two }
+{
+    let Some((stream, pending, _)) = polled(rt, ReceiveStream::new(hub, one, 1, 0)) else {
+        return false;
     };
-    let sent = send(&hub, &mut b, 2, 5);
+    let sent = send(hub, &mut two, 2, 5);
     let (_pass, stopped) = stream.stop();
-    let (_pass, idle) = ReceiveStream::new(&hub, idle, 3, 0).stop();
-    let found = (pending, sent, [stopped, idle]);
-    let wanted = [Stopped::Undelivered(5), Stopped::Idle];
-    assert_eq!(rt; found, (true, Offered::Handed(0, 1), wanted));
-    Ok(())
+    let given_up = matches!(stopped, Stopped::Undelivered(5));
+    pending && matches!(sent, Offered::Handed(0, 1)) && given_up
 }
 
-#[test]
-fn a_stream_that_is_dropped_takes_its_wait_back(rt: HostRuntime) -> Result<(), Fail> {
-    let kinds = [(Kind::Rendezvous, 4u32)];
-    let (hub, mut main) = Hub::new(rt.alloc(), &kinds)?;
-    let a = hub.split(&mut main, 1);
-    let mut b = hub.split(&mut main, 2);
-    let mut host = HostDrive::new(&rt);
-    let once = PolledOnce {
-        stream: Some(ReceiveStream::new(&hub, a, 1, 0)),
-    };
-    let Ok((stream, pending, _item)) = host.drive(once) else {
-        panic!(rt; "driven");
+/// One that does not wait has none to give up.
+pub(crate) fn is_idle(hub: &Hub, one: Pass, _two: Pass) -> bool
+    requires two { AreTwo hub.now one _two }
+{
+    let (_pass, stopped) = ReceiveStream::new(hub, one, 1, 0).stop();
+    matches!(stopped, Stopped::Idle)
+}
+
+/// A stream that is dropped takes its wait back.
+pub(crate) fn is_dropped<R: Wait + RandomSource + AllocGlobal>(
+    rt: &R,
+    hub: &Hub,
+    one: Pass,
+    mut two: Pass,
+) -> bool
+    requires two { AreTwo hub.now one two }
+{
+    let Some((stream, pending, _)) = polled(rt, ReceiveStream::new(hub, one, 1, 0)) else {
+        return false;
     };
     drop(stream);
-    let sent = send(&hub, &mut b, 2, 5);
-    assert_eq!(rt; (pending, sent), (true, Offered::Held(1)));
-    Ok(())
+    let sent = send(hub, &mut two, 2, 5);
+    pending && matches!(sent, Offered::Held(1))
 }
 
-#[test]
-fn a_collect_that_is_dropped_takes_its_wait_back(rt: HostRuntime) -> Result<(), Fail> {
-    let kinds = [(Kind::Rendezvous, 4u32)];
-    let (hub, mut main) = Hub::new(rt.alloc(), &kinds)?;
-    let a = hub.split(&mut main, 1);
-    let mut b = hub.split(&mut main, 2);
-    let mut host = HostDrive::new(&rt);
-    let collects = ReceiveStream::new(&hub, a, 1, 0)
+/// A collect that is dropped takes its wait back.
+pub(crate) fn drops_collect<R: Wait + RandomSource + AllocGlobal>(
+    rt: &R,
+    hub: &Hub,
+    one: Pass,
+    mut two: Pass,
+) -> bool
+    requires two { AreTwo hub.now one two }
+{
+    let mut host = HostDrive::new(rt);
+    let collects = ReceiveStream::new(hub, one, 1, 0)
         .take(2)
         .collect(rt.alloc());
+    // The other is ready first.
     let Ok(Either::Right((7, collects))) = host.drive(select(collects, ready(7u32))) else {
-        panic!(rt; "the other is ready first");
+        return false;
     };
     drop(collects);
-    let sent = send(&hub, &mut b, 2, 5);
-    assert_eq!(rt; sent, Offered::Held(1));
-    Ok(())
+    matches!(send(hub, &mut two, 2, 5), Offered::Held(1))
 }
 
-#[test]
-fn a_stream_that_waits_stays_at_its_place(rt: HostRuntime) -> Result<(), Fail> {
-    let kinds = [(Kind::Rendezvous, 2u32)];
-    let (hub, mut main) = Hub::new(rt.alloc(), &kinds)?;
-    let a = hub.split(&mut main, 1);
-    let mut b = hub.split(&mut main, 2);
-    let mut host = HostDrive::new(&rt);
-    let once = PolledOnce {
-        stream: Some(ReceiveStream::new(&hub, a, 1, 0)),
+/// Two polls of a stream, which both have to wait.
+fn waits_twice<'a, R: Wait + RandomSource + AllocGlobal>(
+    rt: &R,
+    stream: ReceiveStream<'a>,
+) -> Option<ReceiveStream<'a>>
+    requires stands { Stands stream }
+    ensures stands { IfSome result Stands }
+{
+    let Some((stream, first, _)) = polled(rt, stream) else {
+        return None;
     };
-    let Ok((stream, first, _)) = host.drive(once) else {
-        panic!(rt; "driven");
-    };
-    let again = PolledOnce {
-        stream: Some(stream),
-    };
-    let Ok((stream, second, _)) = host.drive(again) else {
-        panic!(rt; "driven again");
-    };
-    let sent = send(&hub, &mut b, 2, 5);
-    let last = PolledOnce {
-        stream: Some(stream),
-    };
-    let Ok((_stream, third, item)) = host.drive(last) else {
-        panic!(rt; "driven at last");
-    };
-    let found = ([first, second, third], sent, item);
-    let wanted = ([true, true, false], Offered::Handed(0, 1), Some(Ok(5)));
-    assert_eq!(rt; found, wanted);
-    Ok(())
+    match polled(rt, stream) {
+        Some((stream, second, _)) => { if first & second { Some(stream) } else { None } }
+        None => None,
+    }
 }
 
-#[test]
-fn a_drive_that_fails_makes_no_entry(rt: HostRuntime) -> Result<(), Fail> {
-    let kinds = [(Kind::Buffered(2), 4u32)];
-    let (hub, mut main) = Hub::new(rt.alloc(), &kinds)?;
-    let mut a = hub.split(&mut main, 1);
-    let b = hub.split(&mut main, 2);
-    let c = hub.split(&mut main, 3);
-    let sent = send_both(&hub, &mut a, 1, 7, 8);
+/// Whether the stream gives this element.
+fn gives<R: Wait + RandomSource + AllocGlobal>(
+    rt: &R,
+    stream: ReceiveStream<'_>,
+    value: Value,
+) -> bool
+    requires stands { Stands stream }
+{
+    match polled(rt, stream) {
+        Some((_stream, pending, item)) => {
+            !pending && matches!(item, Some(Ok(found)) if found == value)
+        }
+        None => false,
+    }
+}
+
+/// A stream that waits stays at its place.
+pub(crate) fn stays<R: Wait + RandomSource + AllocGlobal>(
+    rt: &R,
+    hub: &Hub,
+    one: Pass,
+    mut two: Pass,
+) -> bool
+    requires two { AreTwo hub.now one two }
+{
+    let Some(stream) = waits_twice(rt, ReceiveStream::new(hub, one, 1, 0)) else {
+        return false;
+    };
+    let sent = send(hub, &mut two, 2, 5);
+    gives(rt, stream, 5) & matches!(sent, Offered::Handed(0, 1))
+}
+
+/// A drive that fails makes no entry.
+pub(crate) fn fails<R: Wait + RandomSource + AllocGlobal>(
+    rt: &R,
+    hub: &Hub,
+    mut one: Pass,
+    two: Pass,
+) -> bool
+    requires two { AreTwo hub.now one two }
+{
+    let first = send(hub, &mut one, 1, 7);
+    let second = send(hub, &mut one, 1, 8);
     let mut refuses = Refuses { calls: 0 };
     let failed = matches!(
-        collect_all(rt.alloc(), &mut refuses, &hub, b, 2, 0),
+        collect_all(rt.alloc(), &mut refuses, hub, two, 2, 0),
         Err(DriveError::Failed)
     );
-    let mut host = HostDrive::new(&rt);
-    let Ok((_pass, items)) = collect_all(rt.alloc(), &mut host, &hub, c, 3, 0) else {
-        panic!(rt; "collected");
+    let both = matches!((first, second), (Offered::Put(0), Offered::Put(1)));
+    // Both are there still.
+    let Some((stream, _, item)) = polled(rt, ReceiveStream::new(hub, one, 1, 0)) else {
+        return false;
     };
-    let found = ([sent, failed], items.as_slice());
-    assert_eq!(rt; found, ([true, true], [Ok(7), Ok(8)].as_slice()));
-    Ok(())
+    let seven = matches!(item, Some(Ok(7)));
+    gives(rt, stream, 8) & seven & failed & both
 }

@@ -1,28 +1,34 @@
 //! A sender and a receiver under one drive.
+ghost use Rattle.bridge_tests.specs.HubPasses.{AreTwo};
 
-use cell_words::Hub;
-use channel_model::Kind;
+use cell_words::{Hub, Pass};
 use future_bridge::{Drive, HostDrive, ReceiveStream, SendList, SendSink};
 use futures::StreamExt;
 use futures::future::join;
-use std::test::Fail;
+use std::alloc::AllocGlobal;
+use std::random::RandomSource;
+use std::sync::Wait;
 
-#[test]
-fn a_sender_and_a_receiver_meet_under_one_drive(rt: HostRuntime) -> Result<(), Fail> {
-    let kinds = [(Kind::Rendezvous, 8u32)];
-    let (hub, mut main) = Hub::new(rt.alloc(), &kinds)?;
-    let a = hub.split(&mut main, 1);
-    let b = hub.split(&mut main, 2);
-    let values = [1u32, 2, 3];
-    let sender = SendList::new(SendSink::new(&hub, a, 1, 0), &values);
-    let receiver = ReceiveStream::new(&hub, b, 2, 0)
+/// A sender and a receiver meet at three elements.
+pub(crate) fn meet<R: Wait + RandomSource + AllocGlobal>(
+    rt: &R,
+    hub: &Hub,
+    one: Pass,
+    two: Pass,
+) -> bool
+    requires two { AreTwo hub.now one two }
+{
+    let values = [1, 2, 3];
+    let sender = SendList::new(SendSink::new(hub, one, 1, 0), &values);
+    let receiver = ReceiveStream::new(hub, two, 2, 0)
         .take(3)
         .collect(rt.alloc());
-    let mut host = HostDrive::new(&rt);
+    let mut host = HostDrive::new(rt);
     let Ok((sent, received)) = host.drive(join(sender, receiver)) else {
-        panic!(rt; "driven");
+        return false;
     };
-    assert!(rt; sent.1.is_ok());
-    assert_eq!(rt; received?.as_slice(), [Ok(1), Ok(2), Ok(3)].as_slice());
-    Ok(())
+    match received {
+        Ok(items) => sent.1.is_ok() && items.as_slice() == [Ok(1), Ok(2), Ok(3)].as_slice(),
+        Err(_) => false,
+    }
 }

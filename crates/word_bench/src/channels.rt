@@ -32,8 +32,7 @@
 //! - `by_one`: one coroutine.
 //! - `counted_at_once`: four passes of counted cells.
 //! - `beside`: crossbeam_channel.
-ghost use Rattle.std.specs.Prelude.{◌≡◌, ◌≤◌, false, IfOk};
-ghost use Rattle.channel_model.specs.Channels.{is_signal};
+ghost use Rattle.std.specs.Prelude.{◌≤◌, IfOk};
 
 mod apart;
 mod at_once;
@@ -44,15 +43,17 @@ mod measured;
 mod on_passes;
 mod waits;
 
-use at_once::{Work, four_callers, work_by};
+use crate::told::tell;
+use at_once::{Work, met_by_four};
+use beside::{Beside, by_so_many, select_by_four};
+use by_one::Times;
 use channel_model::Kind;
-use counted_at_once::{draw_by, new_cells};
+use counted_at_once::drawn_by;
 use measured::{ALL, FILLINGS, Filling, Measured, WITHDRAWN, Withdrawn};
-use on_passes::new_hub;
 use std::rt::Env;
 use std::sync::Wait;
 use std::thread::Threads;
-use std::time::{Clock, Instant};
+use std::time::Clock;
 use std::{env, io};
 
 /// What is to be measured.
@@ -96,45 +97,18 @@ fn is_wanted(case: &Option<String>, group: &str, name: &str) -> bool {
     }
 }
 
-fn no_memory() -> io::Error {
-    io::Error::from(io::ErrorKind::OutOfMemory)
-}
-
-/// Says how many there were, and how long they took.
-fn tell<R: Clock + Print + Eprint + AllocGlobal>(
-    rt: &R,
-    name: &str,
-    threads: u32,
-    done: u32,
-    begun: Instant,
-) -> io::Result<()> {
-    let spent = begun.elapsed(rt)?;
-    println!(rt; "{name}, {threads} at once: {done}")?;
-    eprintln!(rt; "{name}, {threads} at once: {done} in {spent:?}")?;
-    Ok(())
-}
-
-/// What four coroutines do with so many transfers, by so many threads.
-fn bench_four<R: Threads + Wait + Sync + Clock + Print + Eprint + AllocGlobal>(
-    rt: &R,
-    name: &str,
-    kind: Kind,
-    work: (Work, Work),
-    transfers: u32,
-    threads: u32,
-) -> io::Result<()>
-    requires elements { is_signal kind ≡ false }
+/// How many places a channel has on which four coroutines make so many transfers.
+fn places_for(transfers: u32) -> u32
     requires some { 4 ≤ transfers }
     requires few { transfers ≤ 1048576 }
+    ensures { (1 ≤ result) × (result ≤ 1048576) }
 {
-    let places = (2 * transfers).min(1048576);
-    let Ok((hub, mut main)) = new_hub(rt.alloc(), kind, places, places) else {
-        return Err(no_memory());
-    };
-    let four = four_callers(&hub, &mut main, work.0, work.1);
-    let begun = Instant::now(rt)?;
-    let four = work_by(rt, &hub, four, transfers / 4, threads);
-    tell(rt, name, threads, four.count(), begun)
+    (2 * transfers).min(1048576)
+}
+
+/// How many turns each of four makes of so many transfers. By no threads they make none.
+fn quarter_of(transfers: u32, threads: u32) -> u32 {
+    if threads == 0 { 0 } else { transfers / 4 }
 }
 
 /// Transfers by coroutines that offer and receive by turns.
@@ -149,9 +123,11 @@ fn bench_by_turns<R: Threads + Wait + Sync + Clock + Print + Eprint + AllocGloba
     requires few { transfers ≤ 1048576 }
 {
     let name = channel.name();
+    let times = quarter_of(transfers, threads);
     if is_wanted(case, name, name) {
-        let work = (Work::Both, Work::Both);
-        bench_four(rt, name, channel.kind(), work, transfers, threads)?;
+        let (places, work) = (places_for(transfers), (Work::Both, Work::Both));
+        let done = met_by_four(rt, channel.kind(), places, work, times, threads);
+        tell(rt, name, threads, done, "")?;
     }
     let Some(beside) = channel.beside_by_turns() else {
         return Ok(());
@@ -159,28 +135,9 @@ fn bench_by_turns<R: Threads + Wait + Sync + Clock + Print + Eprint + AllocGloba
     if !is_wanted(case, beside, beside) {
         return Ok(());
     }
-    let begun = Instant::now(rt)?;
-    let Ok(done) = beside::by_turns(rt, rt.alloc(), channel.capacity(), transfers, threads) else {
-        return Err(no_memory());
-    };
-    tell(rt, beside, threads, done, begun)
-}
-
-/// So many transfers through as many counted cells.
-fn bench_counted<R: Threads + Wait + Sync + Clock + Print + Eprint + AllocGlobal>(
-    rt: &R,
-    transfers: u32,
-    threads: u32,
-) -> io::Result<()>
-    requires some { 4 ≤ transfers }
-    requires few { transfers ≤ 1048576 }
-{
-    let Ok((counted, four)) = new_cells(rt.alloc(), transfers) else {
-        return Err(no_memory());
-    };
-    let begun = Instant::now(rt)?;
-    let four = draw_by(rt, &counted, four, transfers / 4, threads);
-    tell(rt, "counted", threads, four.count(), begun)
+    let work = (Beside::Both, Beside::Both);
+    let done = by_so_many(rt, channel.capacity(), work, (times, times), threads);
+    tell(rt, beside, threads, done, "")
 }
 
 /// Transfers by senders and receivers that are apart.
@@ -199,17 +156,18 @@ fn bench_apart<R: Threads + Wait + Sync + Clock + Print + Eprint + AllocGlobal>(
     }
     let (name, beside) = channel.names_apart();
     if is_wanted(case, "apart", name) {
-        let work = (Work::Sends, Work::Receives);
-        bench_four(rt, name, channel.kind(), work, transfers, threads)?;
+        let (places, work) = (places_for(transfers), (Work::Sends, Work::Receives));
+        let done = met_by_four(rt, channel.kind(), places, work, transfers / 4, threads);
+        tell(rt, name, threads, done, "")?;
     }
     if !is_wanted(case, "apart", beside) {
         return Ok(());
     }
-    let begun = Instant::now(rt)?;
-    let Ok(done) = beside::apart(rt, rt.alloc(), channel.capacity(), transfers, threads) else {
-        return Err(no_memory());
-    };
-    tell(rt, beside, threads, done, begun)
+    let half = transfers / 2;
+    let other = if threads == 2 { transfers - half } else { half };
+    let work = (Beside::Sends, Beside::Receives);
+    let done = by_so_many(rt, channel.capacity(), work, (half, other), threads);
+    tell(rt, beside, threads, done, "")
 }
 
 /// Selects of two channels.
@@ -224,17 +182,15 @@ fn bench_select<R: Threads + Wait + Sync + Clock + Print + Eprint + AllocGlobal>
 {
     let beside = "select crossbeam";
     if is_wanted(case, "select", "select") {
-        let work = (Work::Selects, Work::Selects);
-        bench_four(rt, "select", Kind::Buffered(64), work, selects, threads)?;
+        let (kind, places) = (Kind::Buffered(64), places_for(selects));
+        let (work, times) = ((Work::Selects, Work::Selects), quarter_of(selects, threads));
+        let done = met_by_four(rt, kind, places, work, times, threads);
+        tell(rt, "select", threads, done, "")?;
     }
     if threads < 4 || !is_wanted(case, "select", beside) {
         return Ok(());
     }
-    let begun = Instant::now(rt)?;
-    let Ok(done) = beside::select_by_four(rt, rt.alloc(), selects / 4) else {
-        return Err(no_memory());
-    };
-    tell(rt, beside, threads, done, begun)
+    tell(rt, beside, threads, select_by_four(rt, selects / 4), "")
 }
 
 /// The cases of four coroutines.
@@ -251,7 +207,8 @@ fn bench_at_once<R: Threads + Wait + Sync + Clock + Print + Eprint + AllocGlobal
         bench_by_turns(rt, case, channel, transfers, threads)?;
     }
     if is_wanted(case, "counted", "counted") {
-        bench_counted(rt, transfers, threads)?;
+        let done = drawn_by(rt, transfers, quarter_of(transfers, threads), threads);
+        tell(rt, "counted", threads, done, "")?;
     }
     for channel in ALL {
         bench_apart(rt, case, channel, transfers, threads)?;
@@ -272,24 +229,21 @@ fn bench_full<R: Wait + Clock + Print + Eprint + AllocGlobal>(
         name,
         beside,
     } = filling;
+    let times = Times {
+        queued,
+        withdrawn: 0,
+        transfers,
+        tries: 0,
+    };
     if is_wanted(case, "full", name) {
-        let Ok((hub, mut main)) = new_hub(rt.alloc(), Kind::Buffered(capacity), 1048576, 1) else {
-            return Err(no_memory());
-        };
-        by_one::fill(&hub, &mut main, queued);
-        let begun = Instant::now(rt)?;
-        let done = by_one::transfer(&hub, &mut main, transfers);
-        tell(rt, name, 1, done, begun)?;
+        let done = by_one::done_by_one(rt, Kind::Buffered(capacity), 1048576, times);
+        tell(rt, name, 1, done, "")?;
     }
     if !is_wanted(case, "full", beside) {
         return Ok(());
     }
-    let Ok((to, from)) = beside::filled(rt, rt.alloc(), capacity, queued) else {
-        return Err(no_memory());
-    };
-    let begun = Instant::now(rt)?;
-    let done = beside::transfer(rt, &to, &from, transfers);
-    tell(rt, beside, 1, done, begun)
+    let done = beside::done_by_one(rt, capacity, times);
+    tell(rt, beside, 1, done, "")
 }
 
 /// Offers by one coroutine that do not wait, where so many receivers were withdrawn.
@@ -304,25 +258,21 @@ fn bench_withdrawn<R: Wait + Clock + Print + Eprint + AllocGlobal>(
         name,
         beside,
     } = withdrawn;
+    let times = Times {
+        queued: 0,
+        withdrawn: receivers,
+        transfers: 0,
+        tries: offers,
+    };
     if is_wanted(case, "withdrawn", name) {
-        let Ok((hub, mut main)) = new_hub(rt.alloc(), Kind::Rendezvous, 4096, 1) else {
-            return Err(no_memory());
-        };
-        by_one::give_up(&hub, &mut main, receivers);
-        let begun = Instant::now(rt)?;
-        let done = by_one::try_offers(&hub, &mut main, offers);
-        tell(rt, name, 1, done, begun)?;
+        let done = by_one::done_by_one(rt, Kind::Rendezvous, 4096, times);
+        tell(rt, name, 1, done, "")?;
     }
     if !is_wanted(case, "withdrawn", beside) {
         return Ok(());
     }
-    let Ok((to, from)) = beside::filled(rt, rt.alloc(), 0, 0) else {
-        return Err(no_memory());
-    };
-    beside::give_up(rt, &from, receivers);
-    let begun = Instant::now(rt)?;
-    let done = beside::try_sends(rt, &to, offers);
-    tell(rt, beside, 1, done, begun)
+    let done = beside::done_by_one(rt, 0, times);
+    tell(rt, beside, 1, done, "")
 }
 
 /// The cases of one coroutine.
@@ -340,6 +290,30 @@ fn bench_by_one<R: Wait + Clock + Print + Eprint + AllocGlobal>(
     Ok(())
 }
 
+/// By so many threads, or by 1, 2 and 4.
+fn bench_said<R: Threads + Wait + Sync + Clock + Print + Eprint + AllocGlobal>(
+    rt: &R,
+    case: &Option<String>,
+    transfers: u32,
+    threads: Option<u32>,
+) -> io::Result<()>
+    requires some { 4 ≤ transfers }
+    requires few { transfers ≤ 1048576 }
+{
+    let Some(threads) = threads else {
+        for threads in [1u32, 2, 4] {
+            bench_at_once(rt, case, transfers, threads)?;
+        }
+        return bench_by_one(rt, case, transfers);
+    };
+    bench_at_once(rt, case, transfers, threads)?;
+    match threads {
+        0 => bench_by_one(rt, case, 0),
+        1 => bench_by_one(rt, case, transfers),
+        _ => Ok(()),
+    }
+}
+
 /// All cases that the words ask for.
 pub(crate) fn bench<R: Env + Threads + Wait + Sync + Clock + Print + Eprint + AllocGlobal>(
     rt: &R,
@@ -349,16 +323,5 @@ pub(crate) fn bench<R: Env + Threads + Wait + Sync + Clock + Print + Eprint + Al
         threads,
         case,
     } = read_words(rt)?;
-    if let Some(threads) = threads {
-        bench_at_once(rt, &case, transfers, threads)?;
-        return match threads {
-            0 => bench_by_one(rt, &case, 0),
-            1 => bench_by_one(rt, &case, transfers),
-            _ => Ok(()),
-        };
-    }
-    for threads in [1u32, 2, 4] {
-        bench_at_once(rt, &case, transfers, threads)?;
-    }
-    bench_by_one(rt, &case, transfers)
+    bench_said(rt, &case, transfers, threads)
 }

@@ -9,31 +9,35 @@ ghost use Rattle.std.specs.Prelude.{◌+◌, ◌≤◌, IfOk};
 
 mod tickets;
 
+use crate::told::{no_memory, now, since, small_at};
 use floor_tests::forest_shares::{Four, Work, new_forest, share_of, work_by};
+use std::io;
 use std::rt::Env;
 use std::sync::Wait;
 use std::thread::Threads;
 use std::time::{Clock, Instant};
-use std::{env, io};
-use tickets::{by_four, by_one, by_two};
+use tickets::taken_by;
 
-/// The number that the word says, or else this one.
-fn number_or(word: Option<String>, other: u32) -> u32 {
-    match word {
-        Some(word) => word.as_str().parse::<u32>().unwrap_or(other),
-        None => other,
-    }
+/// So many Jobs, from 4 on.
+fn jobs_at(rt: &(impl Env + AllocGlobal)) -> io::Result<u16>
+    ensures { IfOk result (λ n. (4 ≤ n) × (n ≤ 15999)) }
+{
+    let jobs = u16::try_from(small_at(rt, 2, 100)?).unwrap_or(15999);
+    Ok(jobs.clamp(4, 15999))
 }
 
-/// So many Jobs, from 4 on, and so many tickets.
-fn sizes(rt: &(impl Env + AllocGlobal)) -> io::Result<(u16, u32)>
-    ensures { IfOk result (λ n. (4 ≤ n.0) × (n.0 ≤ 15999)) }
-{
-    let mut words = env::args(rt)?.skip(2);
-    let jobs = number_or(words.next(), 100);
-    let tickets = number_or(words.next(), 1000);
-    let jobs = u16::try_from(jobs).unwrap_or(15999);
-    Ok((jobs.clamp(4, 15999), tickets))
+/// Says how many of a forest's calls came to what they are made for.
+fn tell_work<R: Clock + Print + Eprint>(
+    rt: &R,
+    jobs: u16,
+    threads: u8,
+    work: Work,
+    begun: Option<Instant>,
+    done: u32,
+) -> io::Result<()> {
+    let spent = since(rt, begun)?;
+    println!(rt; "{jobs} Jobs, {threads} at once: {work:?} {done}")?;
+    eprintln!(rt; "{jobs} Jobs, {threads} at once: {work:?} {done} in {spent:?}")
 }
 
 /// Four shares of so many Jobs, which are attached, ended and told gone by so many threads, and of another forest cancelled; and in a third
@@ -66,7 +70,7 @@ fn work_in_turn<R: Threads + Wait + Sync + Clock + Print + Eprint + AllocGlobal>
     let coroutines = jobs + 1;
     let quarter = jobs / 4;
     let Ok((forest, mut main)) = new_forest(rt.alloc(), coroutines, scopes) else {
-        return Err(io::Error::from(io::ErrorKind::OutOfMemory));
+        return Err(no_memory());
     };
     let a = share_of(&forest, &mut main, 1, 1 + quarter);
     let b = share_of(&forest, &mut main, 1 + quarter, 1 + 2 * quarter);
@@ -74,12 +78,9 @@ fn work_in_turn<R: Threads + Wait + Sync + Clock + Print + Eprint + AllocGlobal>
     let d = share_of(&forest, &mut main, 1 + 3 * quarter, coroutines);
     let mut four = Four { a, b, c, d };
     for work in works {
-        let begun = Instant::now(rt)?;
+        let begun = now(rt);
         four = work_by(rt, &forest, coroutines, rt.alloc(), four, *work, threads);
-        let spent = begun.elapsed(rt)?;
-        let done = four.count();
-        println!(rt; "{jobs} Jobs, {threads} at once: {work:?} {done}")?;
-        eprintln!(rt; "{jobs} Jobs, {threads} at once: {work:?} {done} in {spent:?}")?;
+        tell_work(rt, jobs, threads, *work, begun, four.count())?;
     }
     Ok(())
 }
@@ -89,32 +90,28 @@ fn bench_tickets<R: Threads + Wait + Sync + Clock + Print + Eprint + AllocGlobal
     rt: &R,
     tickets: u32,
     lanes: u8,
-) -> io::Result<()> {
-    let begun = Instant::now(rt)?;
-    let taken = match lanes {
-        1 => by_one(rt.alloc(), tickets),
-        2 => by_two(rt, rt.alloc(), tickets),
-        _ => by_four(rt, rt.alloc(), tickets),
+) -> io::Result<()>
+    requires lanes { (1 ≤ lanes) × (lanes ≤ 4) }
+{
+    let begun = now(rt);
+    let Ok(taken) = taken_by(rt, rt.alloc(), lanes, tickets) else {
+        return Err(no_memory());
     };
-    let Ok(taken) = taken else {
-        return Err(io::Error::from(io::ErrorKind::OutOfMemory));
-    };
-    let spent = begun.elapsed(rt)?;
+    let spent = since(rt, begun)?;
     println!(rt; "{tickets} tickets, {lanes} lanes: {taken} taken")?;
-    eprintln!(rt; "{tickets} tickets, {lanes} lanes: {taken} taken in {spent:?}")?;
-    Ok(())
+    eprintln!(rt; "{tickets} tickets, {lanes} lanes: {taken} taken in {spent:?}")
 }
 
 /// All cases.
 pub(crate) fn bench<R: Env + Threads + Wait + Sync + Clock + Print + Eprint + AllocGlobal>(
     rt: &R,
 ) -> io::Result<()> {
-    let (jobs, tickets) = sizes(rt)?;
+    let jobs = jobs_at(rt)?;
+    let tickets = small_at(rt, 3, 1000)?;
     for threads in [1, 2, 4] {
         bench_jobs(rt, jobs, threads)?;
     }
-    for lanes in [1, 2, 4] {
-        bench_tickets(rt, tickets, lanes)?;
-    }
-    Ok(())
+    bench_tickets(rt, tickets, 1)?;
+    bench_tickets(rt, tickets, 2)?;
+    bench_tickets(rt, tickets, 4)
 }

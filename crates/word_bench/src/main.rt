@@ -12,8 +12,9 @@
 //! - `streams`: elements from a sink to a stream.
 //! - `soak`: numbers through a ring by four threads, each received once.
 //! - `gate_soak`: permits of a gate that four threads acquire and release.
-//! - `shares`: four shares of work, on one, two or four threads.
 //! - `sleeps`: what it costs to wait.
+//! - `shares`: four shares of work, on one, two or four threads.
+//! - `told`: what the benches read and write.
 #![tactic(auto)]
 
 mod channels;
@@ -25,6 +26,7 @@ mod shares;
 mod sleeps;
 mod soak;
 mod streams;
+mod told;
 
 use std::rt::Env;
 use std::{env, io};

@@ -11,98 +11,75 @@
 //! - `boxes`: four coroutines over a channel of owned values
 //! - `messages`: the same by the kit's channel
 //! - `rings`: the same through a ring
-ghost use Rattle.std.specs.Prelude.{◌≤◌, IfOk};
+ghost use Rattle.std.specs.Prelude.{◌≤◌};
 ghost use Rattle.parcel_channel.specs.Numbers.{KeepsAll};
 
 mod boxes;
 mod messages;
 mod rings;
 
-use boxes::{new_channel, send_by};
+use crate::told::{small_at, tell};
+use boxes::sent_by;
 use channel_model::Kind;
-use messages::sent_by;
+use messages::exchanged_by;
 use rings::moved_by;
+use std::io;
 use std::rt::Env;
 use std::sync::Wait;
 use std::thread::Threads;
-use std::time::{Clock, Instant};
-use std::{env, io};
+use std::time::Clock;
 
-/// How many transfers.
-fn read_transfers(rt: &(impl Env + AllocGlobal)) -> io::Result<u32>
-    ensures { IfOk result (λ n. (4 ≤ n) × (n ≤ 1048576)) }
-{
-    let mut words = env::args(rt)?.skip(2);
-    let transfers = match words.next() {
-        Some(word) => word.as_str().parse::<u32>().unwrap_or(1000),
-        None => 1000,
-    };
-    Ok(transfers.clamp(4, 1048576))
-}
-
-/// Through a channel of owned values, by so many threads.
-fn bench_boxes<R: Threads + Wait + Sync + Clock + Print + Eprint + AllocGlobal>(
+/// All cases by so many threads.
+fn bench_by<R: Threads + Wait + Sync + Clock + Print + Eprint + AllocGlobal>(
     rt: &R,
-    name: &str,
-    kind: Kind,
     transfers: u32,
     threads: u32,
 ) -> io::Result<()>
-    requires kind { KeepsAll kind }
     requires transfers { (4 ≤ transfers) × (transfers ≤ 1048576) }
 {
-    let Ok((hub, four)) = new_channel(rt.alloc(), kind, transfers) else {
-        return Err(io::Error::from(io::ErrorKind::OutOfMemory));
-    };
-    let begun = Instant::now(rt);
-    let done = send_by(rt, hub, four, rt.alloc(), transfers / 4, threads);
-    let spent = begun?.elapsed(rt)?;
-    println!(rt; "{name}, {threads} at once: {done} transfers")?;
-    eprintln!(rt; "{name}, {threads} at once: {done} transfers in {spent:?}")
-}
-
-/// Writes how many boxes came, and in which time.
-fn tell<R: Clock + Print + Eprint>(
-    rt: &R,
-    name: &str,
-    slots: u32,
-    threads: u32,
-    begun: Instant,
-    done: Option<u32>,
-) -> io::Result<()> {
-    let spent = begun.elapsed(rt)?;
-    let Some(done) = done else {
-        return Err(io::Error::from(io::ErrorKind::OutOfMemory));
-    };
-    println!(rt; "{name} {slots}, {threads} at once: {done} transfers")?;
-    eprintln!(rt; "{name} {slots}, {threads} at once: {done} transfers in {spent:?}")
-}
-
-/// Through the kit's channel and through a ring, by so many threads.
-fn bench_messages<R: Threads + Wait + Sync + Clock + Print + Eprint + AllocGlobal>(
-    rt: &R,
-    slots: u32,
-    transfers: u32,
-    threads: u32,
-) -> io::Result<()> {
-    let begun = Instant::now(rt)?;
-    let done = sent_by(rt, rt.alloc(), slots as usize, transfers / 4, threads);
-    tell(rt, "crossbeam", slots, threads, begun, done)?;
-    let begun = Instant::now(rt)?;
-    let done = moved_by(rt, rt.alloc(), slots, transfers / 4, threads);
-    tell(rt, "ring", slots, threads, begun, done)
+    let times = transfers / 4;
+    let unit = " transfers";
+    let done = sent_by(rt, Kind::Rendezvous, transfers, times, threads);
+    tell(rt, "rendezvous", threads, done, unit)?;
+    let done = sent_by(rt, Kind::Buffered(64), transfers, times, threads);
+    tell(rt, "buffered", threads, done, unit)?;
+    tell(
+        rt,
+        "crossbeam 64",
+        threads,
+        exchanged_by(rt, 64, times, threads),
+        unit,
+    )?;
+    tell(
+        rt,
+        "ring 64",
+        threads,
+        moved_by(rt, 64, times, threads),
+        unit,
+    )?;
+    tell(
+        rt,
+        "crossbeam 1024",
+        threads,
+        exchanged_by(rt, 1024, times, threads),
+        unit,
+    )?;
+    tell(
+        rt,
+        "ring 1024",
+        threads,
+        moved_by(rt, 1024, times, threads),
+        unit,
+    )
 }
 
 /// All cases.
 pub(crate) fn bench<R: Env + Threads + Wait + Sync + Clock + Print + Eprint + AllocGlobal>(
     rt: &R,
 ) -> io::Result<()> {
-    let transfers = read_transfers(rt)?;
+    let transfers = small_at(rt, 2, 1000)?.clamp(4, 1048576);
     for threads in [1u32, 2, 4] {
-        bench_boxes(rt, "rendezvous", Kind::Rendezvous, transfers, threads)?;
-        bench_boxes(rt, "buffered", Kind::Buffered(64), transfers, threads)?;
-        bench_messages(rt, 64, transfers, threads)?;
-        bench_messages(rt, 1024, transfers, threads)?;
+        bench_by(rt, transfers, threads)?;
     }
     Ok(())
 }

@@ -16,25 +16,16 @@ ghost use Rattle.floor_tests.specs.KnownPermits.{IsNumber};
 pub(crate) mod gates_at_once;
 mod locks;
 
+use crate::told::{no_memory, now, since, small_at, tell};
 use floor_tests::permit_calls::tally_of_four;
-use gates_at_once::{new_gate, work_by};
+use gates_at_once::held_by_four;
 use locks::locked_by_four;
 use permits::Permits;
+use std::io;
 use std::rt::Env;
 use std::sync::Wait;
 use std::thread::Threads;
-use std::time::{Clock, Instant};
-use std::{env, io};
-
-/// How often by each of the four.
-fn read_times(rt: &(impl Env + AllocGlobal)) -> io::Result<u32> {
-    let mut words = env::args(rt)?.skip(2);
-    let times = match words.next() {
-        Some(word) => word.as_str().parse::<u32>().unwrap_or(1000),
-        None => 1000,
-    };
-    Ok(times.clamp(1, 131000))
-}
+use std::time::Clock;
 
 /// A semaphore of so many permits, by so many threads.
 fn bench_permits<R: Threads + Wait + Sync + Clock + Print + Eprint + AllocGlobal>(
@@ -46,73 +37,61 @@ fn bench_permits<R: Threads + Wait + Sync + Clock + Print + Eprint + AllocGlobal
     requires first { permits.now.c ≡ 0 }
     requires number { IsNumber permits.now.n }
 {
-    let begun = Instant::now(rt)?;
+    let begun = now(rt);
     let Ok((tally, _free)) = tally_of_four(rt, permits, times, threads, false) else {
-        return Err(io::Error::from(io::ErrorKind::OutOfMemory));
+        return Err(no_memory());
     };
-    let spent = begun.elapsed(rt)?;
+    let spent = since(rt, begun)?;
     let done = tally.held.saturating_add(tally.given_up);
     let n = permits.n;
     let held = tally.held;
     println!(rt; "{n} permits, {threads} at once: {done} acquires")?;
     eprintln!(rt;
         "{n} permits, {threads} at once: {done} acquires, {held} of them held, in {spent:?}"
-    )?;
-    Ok(())
+    )
 }
 
-/// A gate of so many permits, by so many threads.
-fn bench_gate<R: Threads + Wait + Sync + Clock + Print + Eprint + AllocGlobal>(
-    rt: &R,
-    permits: u32,
-    times: u32,
-    threads: u32,
-) -> io::Result<()>
-    requires some { 1 ≤ permits }
-    requires few { permits ≤ 65535 }
-{
-    let Ok((gate, four)) = new_gate(rt.alloc(), permits) else {
-        return Err(io::Error::from(io::ErrorKind::OutOfMemory));
-    };
-    let begun = Instant::now(rt)?;
-    let done = work_by(rt, &gate, four, times, threads).count();
-    let spent = begun.elapsed(rt)?;
-    println!(rt; "gate of {permits}, {threads} at once: {done} acquires")?;
-    eprintln!(rt; "gate of {permits}, {threads} at once: {done} acquires in {spent:?}")?;
-    Ok(())
+/// What is measured.
+#[derive(Clone, Copy)]
+enum What {
+    OnePermit,
+    TwoPermits,
+    Gates,
+    Lock,
 }
 
-/// The kit's lock, by so many threads.
-fn bench_lock<R: Threads + Wait + Sync + Clock + Print + Eprint>(
+/// By so many threads.
+fn bench_one<R: Threads + Wait + Sync + Clock + Print + Eprint + AllocGlobal>(
     rt: &R,
+    what: What,
     times: u32,
     threads: u32,
 ) -> io::Result<()> {
-    let begun = Instant::now(rt)?;
-    let done = locked_by_four(rt, times, threads);
-    let spent = begun.elapsed(rt)?;
-    println!(rt; "lock, {threads} at once: {done} times")?;
-    eprintln!(rt; "lock, {threads} at once: {done} times in {spent:?}")?;
-    Ok(())
+    match what {
+        What::OnePermit => bench_permits(rt, &Permits { c: 0, n: 1 }, times, threads),
+        What::TwoPermits => bench_permits(rt, &Permits { c: 0, n: 2 }, times, threads),
+        What::Gates => {
+            let done = held_by_four(rt, 1, times, threads);
+            tell(rt, "gate of 1", threads, done, " acquires")?;
+            let done = held_by_four(rt, 2, times, threads);
+            tell(rt, "gate of 2", threads, done, " acquires")
+        }
+        What::Lock => {
+            let done = locked_by_four(rt, times, threads);
+            tell(rt, "lock", threads, done, " times")
+        }
+    }
 }
 
 /// All cases.
 pub(crate) fn bench<R: Env + Threads + Wait + Sync + Clock + Print + Eprint + AllocGlobal>(
     rt: &R,
 ) -> io::Result<()> {
-    let times = read_times(rt)?;
-    for threads in [1u32, 2, 4] {
-        bench_permits(rt, &Permits { c: 0, n: 1 }, times, threads)?;
-    }
-    for threads in [1u32, 2, 4] {
-        bench_permits(rt, &Permits { c: 0, n: 2 }, times, threads)?;
-    }
-    for threads in [1u32, 2, 4] {
-        bench_gate(rt, 1, times, threads)?;
-        bench_gate(rt, 2, times, threads)?;
-    }
-    for threads in [1u32, 2, 4] {
-        bench_lock(rt, times, threads)?;
+    let times = small_at(rt, 2, 1000)?.clamp(1, 131000);
+    for what in [What::OnePermit, What::TwoPermits, What::Gates, What::Lock] {
+        for threads in [1u32, 2, 4] {
+            bench_one(rt, what, times, threads)?;
+        }
     }
     Ok(())
 }

@@ -23,7 +23,7 @@ fn by_two<R: Threads + Wait + Sync, T: Send, A: FnOnce() -> T + Send, B: FnOnce(
     (a, b)
 }
 
-/// Four shares, by so many threads, which are one, two or four: by two each thread does two of them.
+/// Four shares, by so many threads, which are none, one, two or four: by two each thread does two of them, and by none this one does all.
 pub(crate) fn by_four<
     R: Threads + Wait + Sync,
     T: Send,
@@ -42,7 +42,7 @@ pub(crate) fn by_four<
     ensures d { D.post right.1 result.1.1 }
 {
     let ((a, b), (c, d)) = (left, right);
-    if threads == 1 {
+    if threads < 2 {
         let left = by_two(rt, a, b, false);
         return (left, by_two(rt, c, d, false));
     }

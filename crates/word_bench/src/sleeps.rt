@@ -13,6 +13,7 @@ ghost use Rattle.gates.specs.Passes.{IsOf as IsOfGate};
 ghost use Rattle.channel_model.specs.Answers.{IsReady};
 ghost use Rattle.word_bench.specs.Rings.{IsPass};
 
+use crate::told::{no_memory, now, since, small_at};
 use channel_model::{Kind, WaitState};
 use co_base::{Memory, WaitId};
 use gates::{Gate, GatePass, TryAcquired};
@@ -21,11 +22,11 @@ use ring_bridge::Bells;
 use ring_channel::{Ring, RingPass};
 use std::alloc::Global;
 use std::hint::spin_loop;
+use std::io;
 use std::rt::Env;
 use std::sync::Wait;
 use std::thread::{Threads, join, sleep, yield_now};
-use std::time::{Clock, Duration, Instant};
-use std::{env, io};
+use std::time::{Clock, Duration};
 
 /// How long a wait is, in milliseconds.
 const PAUSE: u64 = 1_000;
@@ -205,173 +206,190 @@ fn is_received_at_once<R: Wait>(
     }
 }
 
-/// Two channels, with a pass of each.
-#[derive(Drop)]
-struct Ends<'a> {
-    to: &'a ParcelHub<u32>,
-    to_pass: ParcelPass<u32>,
-    fro: &'a ParcelHub<u32>,
-    fro_pass: ParcelPass<u32>,
-}
-
-/// So many numbers are sent, and each is awaited back. Answers how many came; asleep, or not.
-fn serve<R: Wait>(rt: &R, bells: (&Bells, &Bells), ends: Ends<'_>, rounds: u32, asleep: bool) -> u32
-    requires to { IsOf ends.to.now ends.to_pass }
-    requires fro { IsOf ends.fro.now ends.fro_pass }
+/// Sends or receives. Answers whether the number was sent, or came; asleep, or not.
+fn is_moved<R: Wait>(
+    rt: &R,
+    hub: &ParcelHub<u32>,
+    bells: &Bells,
+    pass: &mut ParcelPass<u32>,
+    number: u32,
+    how: (bool, bool),
+) -> bool
+    requires of { IsOf hub.now pass.old }
+    ensures of { IsOf hub.now pass.new }
 {
-    let Ends {
-        to,
-        mut to_pass,
-        fro,
-        mut fro_pass,
-    } = ends;
-    let mut came = 0u32;
-    for number in 0..rounds {
-        let done = if asleep {
-            is_sent(rt, to, bells.0, &mut to_pass, number)
-                && is_received(rt, fro, bells.1, &mut fro_pass, number)
-        } else {
-            is_sent_at_once(rt, to, &mut to_pass, number)
-                && is_received_at_once(rt, fro, &mut fro_pass, number)
-        };
-        came = came.saturating_add(u32::from(done));
+    let (sends, asleep) = how;
+    match (sends, asleep) {
+        (true, true) => is_sent(rt, hub, bells, pass, number),
+        (true, false) => is_sent_at_once(rt, hub, pass, number),
+        (false, true) => is_received(rt, hub, bells, pass, number),
+        (false, false) => is_received_at_once(rt, hub, pass, number),
     }
-    came
 }
 
-/// So many numbers are awaited, and each is sent back.
-fn answer<R: Wait>(
+/// So many numbers are sent on the first channel, and each is awaited back on the second; or each is awaited first, and sent back. Answers
+/// how many went so.
+fn serve<R: Wait>(
     rt: &R,
     bells: (&Bells, &Bells),
-    ends: Ends<'_>,
+    to: &ParcelHub<u32>,
+    mut to_pass: ParcelPass<u32>,
+    fro: &ParcelHub<u32>,
+    mut fro_pass: ParcelPass<u32>,
     rounds: u32,
-    asleep: bool,
+    how: (bool, bool),
 ) -> u32
-    requires to { IsOf ends.to.now ends.to_pass }
-    requires fro { IsOf ends.fro.now ends.fro_pass }
+    requires to { IsOf to.now to_pass }
+    requires fro { IsOf fro.now fro_pass }
 {
-    let Ends {
-        to,
-        mut to_pass,
-        fro,
-        mut fro_pass,
-    } = ends;
+    let (sends, asleep) = how;
     let mut came = 0u32;
     for number in 0..rounds {
-        let done = if asleep {
-            is_received(rt, to, bells.0, &mut to_pass, number)
-                && is_sent(rt, fro, bells.1, &mut fro_pass, number)
-        } else {
-            is_received_at_once(rt, to, &mut to_pass, number)
-                && is_sent_at_once(rt, fro, &mut fro_pass, number)
-        };
+        let done = is_moved(rt, to, bells.0, &mut to_pass, number, (sends, asleep))
+            && is_moved(rt, fro, bells.1, &mut fro_pass, number, (!sends, asleep));
         came = came.saturating_add(u32::from(done));
     }
     came
 }
 
-/// So many rounds of two threads. Answers how many numbers came back and had come.
+/// A channel that keeps one number, with its two passes.
+fn new_channel(
+    alloc: Global,
+    rounds: u32,
+) -> Result<(ParcelHub<u32>, ParcelPass<u32>, ParcelPass<u32>), Memory>
+    requires rounds { (1 ≤ rounds) × (rounds ≤ 500000) }
+    ensures one { IfOk result (λ r. IsOf r.0 r.1) }
+    ensures two { IfOk result (λ r. IsOf r.0 r.2) }
+{
+    let (hub, mut one) = ParcelHub::<u32>::new(alloc, Kind::Buffered(1), 1_048_576, rounds)?;
+    let two = hub.split(&mut one, 1);
+    Ok((hub, one, two))
+}
+
+/// So many rounds of two threads, of which one has the first passes. Answers how many numbers came back and had come.
 fn to_and_fro<R: Threads + Wait + Sync>(
     rt: &R,
+    bells: (&Bells, &Bells),
+    to: &ParcelHub<u32>,
+    to_passes: (ParcelPass<u32>, ParcelPass<u32>),
+    fro: &ParcelHub<u32>,
+    fro_passes: (ParcelPass<u32>, ParcelPass<u32>),
+    rounds: u32,
+    asleep: bool,
+) -> (u32, u32)
+    requires a { IsOf to.now to_passes.0 }
+    requires b { IsOf to.now to_passes.1 }
+    requires c { IsOf fro.now fro_passes.0 }
+    requires d { IsOf fro.now fro_passes.1 }
+{
+    let ((a, b), (c, d)) = (to_passes, fro_passes);
+    join(
+        rt,
+        || -> u32
+            requires to { IsOf to.now a }
+            requires fro { IsOf fro.now c }
+        { serve(rt, bells, to, a, fro, c, rounds, (true, asleep)) },
+        || -> u32
+            requires to { IsOf to.now b }
+            requires fro { IsOf fro.now d }
+        { serve(rt, bells, to, b, fro, d, rounds, (false, asleep)) },
+    )
+}
+
+/// The same, with a second channel of its own.
+fn rounds_over<R: Threads + Wait + Sync>(
+    rt: &R,
     alloc: Global,
+    bells: (&Bells, &Bells),
+    to: &ParcelHub<u32>,
+    to_passes: (ParcelPass<u32>, ParcelPass<u32>),
+    rounds: u32,
+    asleep: bool,
+) -> Result<(u32, u32), Memory>
+    requires rounds { (1 ≤ rounds) × (rounds ≤ 500000) }
+    requires a { IsOf to.now to_passes.0 }
+    requires b { IsOf to.now to_passes.1 }
+{
+    let (fro, c, d) = new_channel(alloc, rounds)?;
+    Ok(to_and_fro(rt, bells, to, to_passes, &fro, (c, d), rounds, asleep))
+}
+
+// ---- what is written
+
+fn bench_waits<R: Threads + Wait + Sync + Clock + Print + Eprint + AllocGlobal>(
+    rt: &R,
+    bells: &Bells,
+) -> io::Result<()> {
+    let begun = now(rt);
+    let Ok(parcel) = parcel_wait(rt, rt.alloc(), bells) else {
+        return Err(no_memory());
+    };
+    let ring = ring_wait(rt, rt.alloc(), bells);
+    let Ok(gate) = gate_wait(rt, rt.alloc()) else {
+        return Err(no_memory());
+    };
+    let spent = since(rt, begun)?;
+    println!(rt; "waits of a second: parcel {parcel}, ring {ring}, gate {gate}")?;
+    eprintln!(rt; "waits of a second: parcel {parcel}, ring {ring}, gate {gate}, in {spent:?}")
+}
+
+/// So many rounds over two channels, of which each has bells of its own.
+fn done_over<R: Threads + Wait + Sync>(
+    rt: &R,
+    alloc: Global,
+    bells: (&Bells, &Bells),
     rounds: u32,
     asleep: bool,
 ) -> Result<(u32, u32), Memory>
     requires rounds { (1 ≤ rounds) × (rounds ≤ 500000) }
 {
-    let bells = (&Bells::new(alloc)?, &Bells::new(alloc)?);
-    let (to, mut a) = ParcelHub::<u32>::new(alloc, Kind::Buffered(1), 1_048_576, rounds)?;
-    let (fro, mut c) = ParcelHub::<u32>::new(alloc, Kind::Buffered(1), 1_048_576, rounds)?;
-    let b = to.split(&mut a, 1);
-    let d = fro.split(&mut c, 1);
-    let (to, fro) = (&to, &fro);
-    let here = Ends {
-        to,
-        to_pass: a,
-        fro,
-        fro_pass: c,
-    };
-    let there = Ends {
-        to,
-        to_pass: b,
-        fro,
-        fro_pass: d,
-    };
-    Ok(join(
-        rt,
-        || -> u32
-            requires to { IsOf here.to.now here.to_pass }
-            requires fro { IsOf here.fro.now here.fro_pass }
-        { serve(rt, bells, here, rounds, asleep) },
-        || -> u32
-            requires to { IsOf there.to.now there.to_pass }
-            requires fro { IsOf there.fro.now there.fro_pass }
-        { answer(rt, bells, there, rounds, asleep) },
-    ))
-}
-
-// ---- what is written
-
-fn no_memory() -> io::Error {
-    io::Error::from(io::ErrorKind::OutOfMemory)
-}
-
-fn bench_waits<R: Threads + Wait + Sync + Clock + Print + Eprint + AllocGlobal>(
-    rt: &R,
-) -> io::Result<()> {
-    let Ok(bells) = Bells::new(rt.alloc()) else {
-        return Err(no_memory());
-    };
-    let begun = Instant::now(rt)?;
-    let Ok(parcel) = parcel_wait(rt, rt.alloc(), &bells) else {
-        return Err(no_memory());
-    };
-    let ring = ring_wait(rt, rt.alloc(), &bells);
-    let Ok(gate) = gate_wait(rt, rt.alloc()) else {
-        return Err(no_memory());
-    };
-    let spent = begun.elapsed(rt)?;
-    println!(rt; "waits of a second: parcel {parcel}, ring {ring}, gate {gate}")?;
-    eprintln!(rt; "waits of a second: parcel {parcel}, ring {ring}, gate {gate}, in {spent:?}")
+    let (to, a, b) = new_channel(alloc, rounds)?;
+    rounds_over(rt, alloc, bells, &to, (a, b), rounds, asleep)
 }
 
 fn bench_rounds<R: Threads + Wait + Sync + Clock + Print + Eprint + AllocGlobal>(
     rt: &R,
+    bells: (&Bells, &Bells),
     name: &str,
     rounds: u32,
     asleep: bool,
 ) -> io::Result<()>
     requires rounds { (1 ≤ rounds) × (rounds ≤ 500000) }
 {
-    let begun = Instant::now(rt)?;
-    let Ok((back, there)) = to_and_fro(rt, rt.alloc(), rounds, asleep) else {
+    let begun = now(rt);
+    let Ok((back, there)) = done_over(rt, rt.alloc(), bells, rounds, asleep) else {
         return Err(no_memory());
     };
-    let spent = begun.elapsed(rt)?;
+    let spent = since(rt, begun)?;
     println!(rt; "to and fro, {name}: {there} there, {back} back")?;
     eprintln!(rt; "to and fro, {name}: {there} there, {back} back, in {spent:?}")
 }
 
-/// How many rounds.
-fn read_rounds(rt: &(impl Env + AllocGlobal)) -> io::Result<u32>
-    ensures few { IfOk result (λ n. n ≤ 500000) }
+/// All that is measured, with these bells.
+fn bench_with<R: Threads + Wait + Sync + Clock + Print + Eprint + AllocGlobal>(
+    rt: &R,
+    bells: (&Bells, &Bells),
+    rounds: u32,
+) -> io::Result<()>
+    requires few { rounds ≤ 500000 }
 {
-    let mut words = env::args(rt)?.skip(2);
-    let rounds = match words.next() {
-        Some(word) => word.as_str().parse::<u32>().unwrap_or(10_000),
-        None => 10_000,
-    };
-    Ok(rounds.min(500_000))
+    bench_waits(rt, bells.0)?;
+    if rounds == 0 {
+        return Ok(());
+    }
+    bench_rounds(rt, bells, "asleep", rounds, true)?;
+    bench_rounds(rt, bells, "spinning", rounds, false)
 }
 
 pub(crate) fn bench<R: Env + Threads + Wait + Sync + Clock + Print + Eprint + AllocGlobal>(
     rt: &R,
 ) -> io::Result<()> {
-    let rounds = read_rounds(rt)?;
-    bench_waits(rt)?;
-    if rounds == 0 {
-        return Ok(());
-    }
-    bench_rounds(rt, "asleep", rounds, true)?;
-    bench_rounds(rt, "spinning", rounds, false)
+    let rounds = small_at(rt, 2, 10_000)?.min(500_000);
+    let Ok(one) = Bells::new(rt.alloc()) else {
+        return Err(no_memory());
+    };
+    let Ok(two) = Bells::new(rt.alloc()) else {
+        return Err(no_memory());
+    };
+    bench_with(rt, (&one, &two), rounds)
 }

@@ -8,14 +8,15 @@
 //! bits; and each receiver looks that what it has of one sender comes in order.
 ghost use Rattle.ring_channel.specs.Passes.{IsOf};
 
+use crate::told::{no_memory, now, number_at, since};
 use ring_channel::{Ring, RingGot, RingPass, RingSent};
 use std::alloc::Global;
 use std::hint::spin_loop;
+use std::io;
 use std::rt::Env;
 use std::sync::Wait;
 use std::thread::{Threads, join, yield_now};
-use std::time::{Clock, Instant};
-use std::{env, io};
+use std::time::Clock;
 
 /// How many slots the ring has.
 const SLOTS: u32 = 64;
@@ -24,7 +25,7 @@ const SLOTS: u32 = 64;
 const TRIES: u64 = 64;
 
 /// Numbers that were sent, or received.
-#[derive(Clone, Copy, PartialEq, Eq)]
+#[derive(Clone, Copy, PartialEq)]
 struct Numbers {
     count: u64,
     sum: u64,
@@ -126,14 +127,14 @@ fn send_from(
 }
 
 /// Receives until the ring is over. Tells what came, and whether the even and the odd numbers each came in order.
-fn receive_all(ring: &Ring<u64>, mut pass: RingPass<u64>) -> (Numbers, bool)
-    requires of { IsOf ring.now pass }
+fn receive_all(ring: &Ring<u64>, pass: &mut RingPass<u64>) -> (Numbers, bool)
+    requires of { IsOf ring.now pass.old }
 {
     let mut received = NONE;
     let mut rises = true;
     let mut next = [0u64, 0u64];
     for _ in 0..u64::MAX {
-        let Some(number) = receive_one(ring, &mut pass) else {
+        let Some(number) = receive_one(ring, pass) else {
             return (received, rises);
         };
         let [even, odd] = next;
@@ -174,16 +175,16 @@ fn send_by_two<R: Threads + Wait + Sync>(
 fn receive_by_two<R: Threads + Wait + Sync>(
     rt: &R,
     ring: &Ring<u64>,
-    c: RingPass<u64>,
-    d: RingPass<u64>,
+    mut c: RingPass<u64>,
+    mut d: RingPass<u64>,
 ) -> (Numbers, bool)
     requires c { IsOf ring.now c }
     requires d { IsOf ring.now d }
 {
     let ((first, one), (second, other)) = join(
         rt,
-        || receive_all(ring, c),
-        || receive_all(ring, d),
+        || receive_all(ring, &mut c),
+        || receive_all(ring, &mut d),
     );
     (both(first, second), one && other)
 }
@@ -215,25 +216,15 @@ fn soak<R: Threads + Wait + Sync>(
     Some((sent, received, rises))
 }
 
-/// How many numbers.
-fn read_numbers(rt: &(impl Env + AllocGlobal)) -> io::Result<u64> {
-    let mut words = env::args(rt)?.skip(2);
-    let numbers = match words.next() {
-        Some(word) => word.as_str().parse::<u64>().unwrap_or(10_000_000),
-        None => 10_000_000,
-    };
-    Ok(numbers.clamp(2, 1_000_000_000_000))
-}
-
 pub(crate) fn bench<R: Env + Threads + Wait + Sync + Clock + Print + Eprint + AllocGlobal>(
     rt: &R,
 ) -> io::Result<()> {
-    let numbers = read_numbers(rt)?;
-    let begun = Instant::now(rt)?;
+    let numbers = number_at(rt, 2, 10_000_000)?.clamp(2, 1_000_000_000_000);
+    let begun = now(rt);
     let Some((sent, received, rises)) = soak(rt, rt.alloc(), numbers) else {
-        return Err(io::Error::from(io::ErrorKind::OutOfMemory));
+        return Err(no_memory());
     };
-    let spent = begun.elapsed(rt)?;
+    let spent = since(rt, begun)?;
     let once = rises && sent == received;
     let (out, back) = (sent.count, received.count);
     println!(rt; "soak: {out} sent, {back} received, each once and in order: {once}")?;

@@ -4,6 +4,7 @@
 //!     word_bench streams [ELEMENTS]     by default 1000, at most 1048576
 //!
 //! Both channels keep 64. A list is sent, and collected.
+use crate::told::{no_memory, now, since, small_at};
 use cell_words::Hub;
 use channel_model::Kind;
 use future_bridge::{Drive, HostDrive, ReceiveStream, SendList, SendSink};
@@ -13,11 +14,11 @@ use futures::future::join;
 use futures::stream::iter;
 use futures::{SinkExt, StreamExt};
 use std::alloc::AllocGlobal;
+use std::io;
 use std::random::RandomSource;
 use std::rt::Env;
 use std::sync::Wait;
 use std::time::{Clock, Instant};
-use std::{env, io};
 
 /// How many elements a channel keeps.
 const KEPT: u32 = 64;
@@ -34,13 +35,13 @@ fn numbers(rt: &impl AllocGlobal, below: u32) -> Option<Vec<u32>> {
 }
 
 /// Over a channel over words. Answers how many came.
-fn bridged<R: Wait + RandomSource + AllocGlobal>(rt: &R, values: Vec<u32>) -> Option<usize> {
+fn bridged<R: Wait + RandomSource + AllocGlobal>(rt: &R, values: &[u32]) -> Option<usize> {
     let Ok((hub, mut main)) = Hub::new(rt.alloc(), &[(Kind::Buffered(KEPT), 1_048_576)]) else {
         return None;
     };
     let sender = hub.split(&mut main, 1);
     let receiver = hub.split(&mut main, 2);
-    let sends = SendList::new(SendSink::new(&hub, sender, 1, 0), values.as_slice());
+    let sends = SendList::new(SendSink::new(&hub, sender, 1, 0), values);
     let receives = ReceiveStream::new(&hub, receiver, 2, 0)
         .take(values.len())
         .collect(rt.alloc());
@@ -74,38 +75,36 @@ fn by_the_kit<R: Wait + RandomSource + AllocGlobal>(rt: &R, below: u32) -> Optio
 fn tell<R: Clock + Print + Eprint>(
     rt: &R,
     name: &str,
-    begun: Instant,
+    begun: Option<Instant>,
     came: Option<usize>,
 ) -> io::Result<()> {
-    let spent = begun.elapsed(rt)?;
     let Some(came) = came else {
-        return Err(io::Error::from(io::ErrorKind::OutOfMemory));
+        return Err(no_memory());
     };
+    let spent = since(rt, begun)?;
     println!(rt; "{name}: {came} elements")?;
     eprintln!(rt; "{name}: {came} elements in {spent:?}")
 }
 
-/// How many elements.
-fn read_elements(rt: &(impl Env + AllocGlobal)) -> io::Result<u32> {
-    let mut words = env::args(rt)?.skip(2);
-    let elements = match words.next() {
-        Some(word) => word.as_str().parse::<u32>().unwrap_or(1_000),
-        None => 1_000,
+/// So many elements over a channel over words.
+fn bench_bridged<R: Wait + Clock + Print + Eprint + RandomSource + AllocGlobal>(
+    rt: &R,
+    elements: u32,
+) -> io::Result<()> {
+    let Some(values) = numbers(rt, elements) else {
+        return Err(no_memory());
     };
-    Ok(elements.clamp(1, 1_048_576))
+    let begun = now(rt);
+    let came = bridged(rt, values.as_slice());
+    tell(rt, "bridge", begun, came)
 }
 
 pub(crate) fn bench<R: Env + Wait + Clock + Print + Eprint + RandomSource + AllocGlobal>(
     rt: &R,
 ) -> io::Result<()> {
-    let elements = read_elements(rt)?;
-    let Some(values) = numbers(rt, elements) else {
-        return Err(io::Error::from(io::ErrorKind::OutOfMemory));
-    };
-    let begun = Instant::now(rt)?;
-    let came = bridged(rt, values);
-    tell(rt, "bridge", begun, came)?;
-    let begun = Instant::now(rt)?;
+    let elements = small_at(rt, 2, 1_000)?.clamp(1, 1_048_576);
+    bench_bridged(rt, elements)?;
+    let begun = now(rt);
     let came = by_the_kit(rt, elements);
     tell(rt, "mpsc", begun, came)
 }

@@ -1,5 +1,7 @@
 //! A thread that sends numbers, and a thread that receives them: each sleeps while it has to wait. The same by a sink and a stream.
+ghost use Rattle.std.specs.Prelude.{◌<◌};
 ghost use Rattle.parcel_channel.specs.Hubs.{IsOf};
+ghost use Rattle.parcel_channel.specs.Numbers.{KeepsAll};
 ghost use Rattle.bridge_tests.specs.ParcelPasses.{Keeps};
 
 use crate::parcels::parcel_calls::{Three, are_empty, new_channel, rest_of};
@@ -12,12 +14,13 @@ use futures::test::MockTask;
 use futures::{SinkExt, Stream, StreamExt};
 use parcel_channel::{ParcelHub, ParcelPass, ParcelSent};
 use ring_bridge::Bells;
-use std::alloc::Global;
+use std::alloc::{AllocGlobal, Global};
+use std::random::RandomSource;
 use std::sync::Wait;
 use std::test::Fail;
 use std::thread::{Threads, join, sleep};
 use std::time::{Clock, Duration};
-use waiting::{ParcelSink, ParcelStream, SendFault, receive, send};
+use waiting::{ParcelSink, ParcelStream, ReceiveFault, SendFault, receive, send};
 
 /// How many numbers are sent.
 const NUMBERS: u32 = 1_000;
@@ -86,46 +89,60 @@ fn by_two<R: Threads + Wait + Sync + Clock>(
     )
 }
 
-#[test]
-fn threads_that_sleep_move_each_number(rt: HostRuntime) -> Result<(), Fail> {
-    let bells = Bells::new(rt.alloc())?;
-    for kind in [Kind::Rendezvous, Kind::Buffered(1)] {
-        let (hub, three) = new_channel(rt.alloc(), kind, 1_000, 1_000)?;
-        let Three { main, one, two } = three;
-        let ((one, sent), (two, in_order)) = by_two(&rt, &hub, &bells, one, two);
-        let rest = rest_of(hub, main, one, two);
-        assert_eq!(rt;
-            (sent, in_order, are_empty(rest.as_slice())),
-            (NUMBERS, NUMBERS, true)
-        );
-    }
-    Ok(())
+/// Threads that sleep move each number, on a channel of this kind.
+fn move_each<R: Threads + Wait + Sync + Clock>(
+    rt: &R,
+    alloc: Global,
+    bells: &Bells,
+    kind: Kind,
+) -> bool
+    requires kind { KeepsAll kind }
+{
+    let Ok((hub, three)) = new_channel(alloc, kind, 1_000, 1_000) else {
+        return false;
+    };
+    let Three { main, one, two } = three;
+    let ((one, sent), (two, in_order)) = by_two(rt, &hub, bells, one, two);
+    let rest = rest_of(hub, main, one, two);
+    sent == NUMBERS && in_order == NUMBERS && are_empty(rest.as_slice())
 }
 
-#[test]
-fn a_sink_and_a_stream_take_turns(rt: HostRuntime) -> Result<(), Fail> {
-    let alloc = rt.alloc();
-    let bells = Bells::new(alloc)?;
-    let (hub, three) = new_channel::<u32>(alloc, Kind::Buffered(1), 100, 100)?;
-    let Three {
-        main: _main,
-        one,
-        two,
-    } = three;
+/// Whether these are a hundred numbers from 0 on.
+fn are_numbers(items: &[Result<u32, ReceiveFault>]) -> bool {
+    let mut due = 0u32;
+    for item in items {
+        if !matches!(item, Ok(number) if *number == due) {
+            return false;
+        }
+        due = due.wrapping_add(1);
+    }
+    due == 100
+}
+
+/// A sink and a stream take turns: a hundred numbers go over a channel that keeps one.
+fn take_turns<R: Wait + RandomSource + AllocGlobal>(
+    rt: &R,
+    hub: &ParcelHub<u32>,
+    bells: &Bells,
+    one: ParcelPass<u32>,
+    two: ParcelPass<u32>,
+) -> bool
+    requires one { IsOf hub.now one }
+    requires two { IsOf hub.now two }
+    requires low { (one.tag < 63) × (two.tag < 63) }
+{
     let numbers = iter(0..100u32).map(|n| -> Result<u32, SendFault<u32>> { Ok(n) });
-    let sends = ParcelSink::new(&hub, &bells, one).send_all(numbers);
-    let receives = ParcelStream::new(&hub, &bells, two)
+    let sends = ParcelSink::new(hub, bells, one).send_all(numbers);
+    let receives = ParcelStream::new(hub, bells, two)
         .take(100)
-        .collect(alloc);
-    let (sent, received) = block_on(&rt, join_tasks(sends, receives))?;
-    let items = received?;
-    let in_order = items
-        .as_slice()
-        .iter()
-        .zip(0..100u32)
-        .all(|(item, due)| matches!(item, Ok(number) if *number == due));
-    assert_eq!(rt; (sent.is_ok(), items.len(), in_order), (true, 100, true));
-    Ok(())
+        .collect(rt.alloc());
+    let Ok((sent, received)) = block_on(rt, join_tasks(sends, receives)) else {
+        return false;
+    };
+    match received {
+        Ok(items) => sent.is_ok() && are_numbers(items.as_slice()),
+        Err(_) => false,
+    }
 }
 
 /// What a poll of the task comes to: 0 where it is pending, and else the number that it gives, or 99.
@@ -137,26 +154,82 @@ fn polled(task: &MockTask, stream: &mut ParcelStream<'_, u32>) -> u32 {
     }
 }
 
-#[test]
-fn a_stream_that_is_dropped_takes_its_wait_back(rt: HostRuntime) -> Result<(), Fail> {
-    let bells = Bells::new(rt.alloc())?;
-    let task = MockTask::new(&rt)?;
-    let (hub, three) = new_channel::<u32>(rt.alloc(), Kind::Buffered(1), 10, 10)?;
-    let Three {
-        main: _main,
-        one,
-        mut two,
-    } = three;
-    let mut stream = ParcelStream::new(&hub, &bells, one);
-    let before = (polled(&task, &mut stream), task.is_woken());
-    let first = send(&rt, &hub, &bells, &mut two, 7).is_ok();
+/// Whether the poll comes to this, and whether the task is woken then.
+fn polls_to(task: &MockTask, stream: &mut ParcelStream<'_, u32>, number: u32, woken: bool) -> bool {
+    let found = polled(task, stream);
+    found == number && task.is_woken() == woken
+}
+
+/// A stream sleeps until it is woken; one that is dropped takes its wait back.
+fn sleeps_with<R: Wait>(
+    rt: &R,
+    task: &MockTask,
+    hub: &ParcelHub<u32>,
+    bells: &Bells,
+    one: ParcelPass<u32>,
+    mut two: ParcelPass<u32>,
+) -> bool
+    requires one { IsOf hub.now one }
+    requires two { IsOf hub.now two }
+    requires low { (one.tag < 63) × (two.tag < 63) }
+{
+    let mut stream = ParcelStream::new(hub, bells, one);
+    let sleeps = polls_to(task, &mut stream, 0, false);
+    let first = send(rt, hub, bells, &mut two, 7).is_ok();
     let woken = task.is_woken();
-    let after = (polled(&task, &mut stream), polled(&task, &mut stream));
+    let came = polled(task, &mut stream);
+    let waits = polled(task, &mut stream);
     drop(stream);
     let kept = matches!(hub.send(&mut two, 8), ParcelSent::Sent(None, 0));
-    assert_eq!(rt;
-        (before, first, woken, after, kept),
-        ((0, false), true, true, (7, 0), true)
-    );
+    [sleeps, first, woken, came == 7, waits == 0, kept] == [true; 6]
+}
+
+/// The same with a task of its own.
+fn is_dropped<R: Wait + RandomSource + AllocGlobal>(
+    rt: &R,
+    hub: &ParcelHub<u32>,
+    bells: &Bells,
+    one: ParcelPass<u32>,
+    two: ParcelPass<u32>,
+) -> bool
+    requires one { IsOf hub.now one }
+    requires two { IsOf hub.now two }
+    requires low { (one.tag < 63) × (two.tag < 63) }
+{
+    match MockTask::new(rt) {
+        Ok(task) => sleeps_with(rt, &task, hub, bells, one, two),
+        Err(_) => false,
+    }
+}
+
+/// Whether one of the two goes as it says, on a channel that keeps one.
+fn went<R: Wait + RandomSource + AllocGlobal>(rt: &R, bells: &Bells, turns: bool) -> bool {
+    match new_channel::<u32>(rt.alloc(), Kind::Buffered(1), 100, 100) {
+        Ok((hub, three)) => {
+            let Three {
+                main: _main,
+                one,
+                two,
+            } = three;
+            if turns {
+                take_turns(rt, &hub, bells, one, two)
+            } else {
+                is_dropped(rt, &hub, bells, one, two)
+            }
+        }
+        Err(_) => false,
+    }
+}
+
+#[test]
+fn who_sleeps_is_woken(rt: HostRuntime) -> Result<(), Fail> {
+    let bells = Bells::new(rt.alloc())?;
+    let found = [
+        move_each(&rt, rt.alloc(), &bells, Kind::Rendezvous),
+        move_each(&rt, rt.alloc(), &bells, Kind::Buffered(1)),
+        went(&rt, &bells, true),
+        went(&rt, &bells, false),
+    ];
+    assert_eq!(rt; found, [true; 4]);
     Ok(())
 }

@@ -29,7 +29,7 @@ struct Five {
 }
 
 /// How many values came out to a thread, and how many were lost.
-#[derive(Clone, Copy, Debug, PartialEq, Eq)]
+#[derive(Clone, Copy)]
 struct Count {
     out: u32,
     lost: u32,

@@ -3,10 +3,9 @@
 ghost use Rattle.bridge_tests.specs.RingPasses.{IsPass};
 
 use ring_bridge::{Bells, receive, send};
-use ring_channel::{ReceiveOutcome, Ring, RingFault, RingGot, RingPass, RingSide, SendOutcome};
+use ring_channel::{ReceiveOutcome, Ring, RingGot, RingPass, RingSide, SendOutcome};
 use std::alloc::Global;
 use std::sync::Wait;
-use std::test::Fail;
 use std::thread::{Threads, join};
 
 /// How often each line is run.
@@ -23,58 +22,93 @@ struct Part {
     closes: bool,
 }
 
+/// It does nothing.
+const NOTHING: Part = Part {
+    times: 0,
+    leaves: false,
+    closes: false,
+};
+
 /// So often, and waits.
-fn times(times: u32) -> Part {
-    Part {
-        times,
-        leaves: false,
-        closes: false,
-    }
-}
+const ONCE: Part = Part {
+    times: 1,
+    leaves: false,
+    closes: false,
+};
+
+const TWICE: Part = Part {
+    times: 2,
+    leaves: false,
+    closes: false,
+};
+
+const THRICE: Part = Part {
+    times: 3,
+    leaves: false,
+    closes: false,
+};
+
+const FOUR_TIMES: Part = Part {
+    times: 4,
+    leaves: false,
+    closes: false,
+};
 
 /// So often, or gives up.
-fn leaving(times: u32) -> Part {
-    Part {
-        times,
-        leaves: true,
-        closes: false,
-    }
-}
+const ONCE_OR_LEAVES: Part = Part {
+    times: 1,
+    leaves: true,
+    closes: false,
+};
+
+const TWICE_OR_LEAVES: Part = Part {
+    times: 2,
+    leaves: true,
+    closes: false,
+};
 
 /// So often, and closes.
-fn closing(times: u32) -> Part {
-    Part {
-        times,
-        leaves: false,
-        closes: true,
-    }
-}
+const CLOSES: Part = Part {
+    times: 0,
+    leaves: false,
+    closes: true,
+};
 
-/// It does nothing.
-fn nothing() -> Part {
-    times(0)
-}
+const ONCE_AND_CLOSES: Part = Part {
+    times: 1,
+    leaves: false,
+    closes: true,
+};
+
+const TWICE_AND_CLOSES: Part = Part {
+    times: 2,
+    leaves: false,
+    closes: true,
+};
 
 /// Two that send and two that receive.
-fn lines() -> [([Part; 2], [Part; 2]); 12] {
-    [
-        ([times(4), nothing()], [times(2), times(2)]),
-        ([times(3), nothing()], [times(3), nothing()]),
-        ([closing(1), nothing()], [times(1), leaving(1)]),
-        ([times(1), leaving(1)], [times(1), nothing()]),
-        ([closing(1), nothing()], [times(1), times(1)]),
-        ([closing(1), times(1)], [times(1), nothing()]),
-        ([closing(2), closing(0)], [times(2), nothing()]),
-        ([times(1), times(1)], [times(1), times(1)]),
-        ([times(2), times(2)], [times(4), nothing()]),
-        ([times(1), times(1)], [times(1), leaving(1)]),
-        ([times(3), nothing()], [times(2), leaving(1)]),
-        ([leaving(2), leaving(2)], [leaving(2), leaving(2)]),
-    ]
-}
+type Line = ([Part; 2], [Part; 2]);
+
+const LINES: [Line; 12] = [
+    ([FOUR_TIMES, NOTHING], [TWICE, TWICE]),
+    ([THRICE, NOTHING], [THRICE, NOTHING]),
+    ([ONCE_AND_CLOSES, NOTHING], [ONCE, ONCE_OR_LEAVES]),
+    ([ONCE, ONCE_OR_LEAVES], [ONCE, NOTHING]),
+    ([ONCE_AND_CLOSES, NOTHING], [ONCE, ONCE]),
+    ([ONCE_AND_CLOSES, ONCE], [ONCE, NOTHING]),
+    ([TWICE_AND_CLOSES, CLOSES], [TWICE, NOTHING]),
+    ([ONCE, ONCE], [ONCE, ONCE]),
+    ([TWICE, TWICE], [FOUR_TIMES, NOTHING]),
+    ([ONCE, ONCE], [ONCE, ONCE_OR_LEAVES]),
+    ([THRICE, NOTHING], [TWICE, ONCE_OR_LEAVES]),
+    (
+        [TWICE_OR_LEAVES, TWICE_OR_LEAVES],
+        [TWICE_OR_LEAVES, TWICE_OR_LEAVES],
+    ),
+];
 
 /// Numbers that were sent or received: how many, their sum, and whether their places rose.
-#[derive(Clone, Copy, PartialEq)]
+#[derive(Clone, Copy)]
 struct Came {
     count: u32,
     sum: u32,
@@ -282,19 +316,28 @@ fn by_receivers<R: Threads + Wait + Sync>(
     )
 }
 
-/// Runs a line. Answers whether each number that was sent came once, or is left, and the places of each receiver rose.
-fn went_so<R: Threads + Wait + Sync>(
+/// Whether each number that was sent came once, and the places of each receiver rose.
+fn agree(sent: Came, received: Came) -> bool {
+    let all = sent.count == received.count && sent.sum == received.sum;
+    all && sent.rises && received.rises
+}
+
+/// The parts of a line, at once; what is left counts as received. Answers whether all went so.
+fn by_all<R: Threads + Wait + Sync>(
     rt: &R,
-    alloc: Global,
+    ring: &Ring<u32>,
     bells: &Bells,
-    slots: u32,
-    line: ([Part; 2], [Part; 2]),
-) -> Result<bool, RingFault> {
-    let (ring, mut a) = Ring::<u32>::new(alloc, slots)?;
-    let b = ring.split(&mut a, 1);
-    let c = ring.split(&mut a, 2);
-    let d = ring.split(&mut a, 3);
-    let ring = &ring;
+    a: RingPass<u32>,
+    b: RingPass<u32>,
+    c: RingPass<u32>,
+    d: RingPass<u32>,
+    line: Line,
+) -> bool
+    requires a { IsPass ring.now 0 a }
+    requires b { IsPass ring.now 1 b }
+    requires c { IsPass ring.now 2 c }
+    requires d { IsPass ring.now 3 d }
+{
     let (senders, receivers) = line;
     let ((a, one, other), (first, second)) = join(
         rt,
@@ -309,22 +352,39 @@ fn went_so<R: Threads + Wait + Sync>(
         { by_receivers(rt, ring, bells, c, d, receivers) },
     );
     let left = left_of(ring, a);
-    let sent = both(one, other);
-    let received = both(both(first, second), left);
-    let all = sent.count == received.count && sent.sum == received.sum;
-    Ok(all && sent.rises && received.rises)
+    agree(both(one, other), both(both(first, second), left))
 }
 
-#[test]
-fn nobody_is_forgotten_whatever_the_threads_do(rt: HostRuntime) -> Result<(), Fail> {
-    let bells = Bells::new(rt.alloc())?;
-    for line in lines() {
-        for slots in [1, 2, 3] {
-            for _ in 0..TURNS {
-                let went = went_so(&rt, rt.alloc(), &bells, slots, line)?;
-                assert!(rt; went);
+/// Runs a line on a ring of its own.
+fn went_so<R: Threads + Wait + Sync>(
+    rt: &R,
+    alloc: Global,
+    bells: &Bells,
+    slots: u32,
+    line: Line,
+) -> bool {
+    let Ok((ring, mut a)) = Ring::<u32>::new(alloc, slots) else {
+        return false;
+    };
+    let b = ring.split(&mut a, 1);
+    let c = ring.split(&mut a, 2);
+    let d = ring.split(&mut a, 3);
+    by_all(rt, &ring, bells, a, b, c, d, line)
+}
+
+/// Nobody is forgotten, whatever the threads do: each line is run so often on so many slots.
+pub(crate) fn nobody_is_forgotten<R: Threads + Wait + Sync>(
+    rt: &R,
+    alloc: Global,
+    bells: &Bells,
+    slots: u32,
+) -> bool {
+    for line in LINES {
+        for _ in 0..TURNS {
+            if !went_so(rt, alloc, bells, slots, line) {
+                return false;
             }
         }
     }
-    Ok(())
+    true
 }

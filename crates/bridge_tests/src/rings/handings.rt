@@ -1,12 +1,11 @@
 //! A rendezvous over a ring of one slot.
 ghost use Rattle.std.specs.Prelude.{◌<◌};
-ghost use Rattle.bridge_tests.specs.RingPasses.{IsMain, IsOther, Keeps};
+ghost use Rattle.bridge_tests.specs.RingPasses.{AreThree, IsMain, IsOther, Keeps};
 
-use crate::rings::ring_calls::{Three, new_ring, rest_of};
+use crate::rings::ring_calls::Three;
 use ring_bridge::{Bells, HandedOver, hand_over, receive};
-use ring_channel::{Ring, RingPass, RingSide};
+use ring_channel::{Ring, RingGot, RingPass, RingSide};
 use std::sync::Wait;
-use std::test::Fail;
 use std::thread::{Threads, join, yield_now};
 
 /// How many numbers each sender hands over.
@@ -88,28 +87,28 @@ fn by_three<R: Threads + Wait + Sync>(
     )
 }
 
-#[test]
-fn two_senders_hand_over_all_they_have(rt: HostRuntime) -> Result<(), Fail> {
-    let bells = Bells::new(rt.alloc())?;
-    let (ring, three) = new_ring::<u32>(rt.alloc(), 1, 2 * u64::from(NUMBERS))?;
-    let Three { main, one, two } = three;
-    let (taken, sum) = by_three(&rt, &ring, &bells, main, one, two);
-    assert_eq!(rt; (taken, sum), ((NUMBERS, NUMBERS), 249_500));
-    Ok(())
-}
-
-/// Hands 7 over. Answers whether it was left at the place 1.
-fn hand_seven<R: Wait>(
+/// Two senders hand over all that they have.
+pub(crate) fn hand_over_all<R: Threads + Wait + Sync>(
     rt: &R,
     ring: &Ring<u32>,
     bells: &Bells,
-    mut pass: RingPass<u32>,
-) -> (RingPass<u32>, bool)
-    requires of { IsOther 1 ring.now pass }
-    ensures kept { Keeps ring.now pass result.0 }
+    three: Three<u32>,
+) -> bool
+    requires three { AreThree ring.now three.main three.one three.two }
 {
-    let handed = hand_over(rt, ring, bells, &mut pass, 1, 7);
-    (pass, matches!(handed, HandedOver::Left(1)))
+    let Three { main, one, two } = three;
+    let (taken, sum) = by_three(rt, ring, bells, main, one, two);
+    taken.0 == NUMBERS && taken.1 == NUMBERS && sum == 249_500
+}
+
+/// Hands 7 over. Answers whether it was left at the place 1.
+fn hand_seven<R: Wait>(rt: &R, ring: &Ring<u32>, bells: &Bells, mut pass: RingPass<u32>) -> bool
+    requires of { IsOther 1 ring.now pass }
+{
+    matches!(
+        hand_over(rt, ring, bells, &mut pass, 1, 7),
+        HandedOver::Left(1)
+    )
 }
 
 /// Looks again and again until the first value is there.
@@ -127,14 +126,13 @@ fn until_there(ring: &Ring<u32>, pass: &mut RingPass<u32>)
 }
 
 /// Closes the ring once the first value is there. Answers whether it was open.
-fn close_late(ring: &Ring<u32>, bells: &Bells, mut pass: RingPass<u32>) -> (RingPass<u32>, bool)
+fn close_late(ring: &Ring<u32>, bells: &Bells, mut pass: RingPass<u32>) -> bool
     requires of { IsOther 2 ring.now pass }
-    ensures kept { Keeps ring.now pass result.0 }
 {
     until_there(ring, &mut pass);
     let closing = ring.close_and_call(&mut pass);
     bells.wake_all(closing);
-    (pass, closing.closed)
+    closing.closed
 }
 
 /// Both at once.
@@ -144,11 +142,9 @@ fn by_two<R: Threads + Wait + Sync>(
     bells: &Bells,
     one: RingPass<u32>,
     two: RingPass<u32>,
-) -> ((RingPass<u32>, bool), (RingPass<u32>, bool))
+) -> (bool, bool)
     requires one { IsOther 1 ring.now one }
     requires two { IsOther 2 ring.now two }
-    ensures one { Keeps ring.now one result.0.0 }
-    ensures two { Keeps ring.now two result.1.0 }
 {
     join(
         rt,
@@ -157,12 +153,17 @@ fn by_two<R: Threads + Wait + Sync>(
     )
 }
 
-#[test]
-fn a_value_that_nobody_claimed_is_left(rt: HostRuntime) -> Result<(), Fail> {
-    let bells = Bells::new(rt.alloc())?;
-    let (ring, three) = new_ring::<u32>(rt.alloc(), 1, 100)?;
+/// The first value, 6, is claimed and told so. Nobody claims the second: it is left once the ring is closed.
+pub(crate) fn is_left<R: Threads + Wait + Sync>(
+    rt: &R,
+    ring: &Ring<u32>,
+    bells: &Bells,
+    three: Three<u32>,
+) -> bool
+    requires three { AreThree ring.now three.main three.one three.two }
+{
     let Three {
-        main,
+        mut main,
         mut one,
         mut two,
     } = three;
@@ -171,13 +172,10 @@ fn a_value_that_nobody_claimed_is_left(rt: HostRuntime) -> Result<(), Fail> {
     let not_yet = ring.was_taken(&mut two, 0);
     ring.try_receive(&mut two);
     let claimed = ring.was_taken(&mut one, 0);
-    let ((one, left), (mut two, closed)) = by_two(&rt, &ring, &bells, one, two);
-    let after = ring.is_closed(&mut two);
-    let rest = rest_of(ring, main, one, two);
-    assert_eq!(rt;
-        ([before, not_yet, claimed], [left, closed, after]),
-        ([false, false, true], [true; 3])
-    );
-    assert!(rt; matches!(rest.as_slice(), [7]));
-    Ok(())
+    let (left, closed) = by_two(rt, ring, bells, one, two);
+    let after = ring.is_closed(&mut main);
+    let seven = matches!(ring.try_receive(&mut main), RingGot::Value(1, 7));
+    let over = matches!(ring.try_receive(&mut main), RingGot::Closed);
+    [before, not_yet, claimed, left, closed, after, seven, over]
+        == [false, false, true, true, true, true, true, true]
 }

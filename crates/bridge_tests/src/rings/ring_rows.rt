@@ -68,16 +68,15 @@ fn first_wrong(ring: &Ring<u32>, pass: &mut RingPass<u32>, rows: &[(Call, Answer
     wrong
 }
 
-/// A ring of so many slots and places on which these calls are made. Answers which was wrong, and the rest.
-fn after_rows(
-    alloc: Global,
-    slots: u32,
-    rows: &[(Call, Answer)],
-) -> Result<(Option<usize>, Vec<u32>), RingFault> {
-    let (ring, three) = new_ring::<u32>(alloc, slots, 6)?;
+/// Makes these calls on a ring of so many slots and of six places. Whether each answered as its row says, and this is left.
+fn went(alloc: Global, slots: u32, rows: &[(Call, Answer)], left: &[u32]) -> bool {
+    let Ok((ring, three)) = new_ring::<u32>(alloc, slots, 6) else {
+        return false;
+    };
     let Three { main, mut one, two } = three;
     let wrong = first_wrong(&ring, &mut one, rows);
-    Ok((wrong, rest_of(ring, main, one, two)))
+    let rest = rest_of(ring, main, one, two);
+    wrong.is_none() && rest.as_slice() == left
 }
 
 const ONE_SLOT: [(Call, Answer); 8] = [
@@ -116,32 +115,25 @@ const THREE_SLOTS: [(Call, Answer); 10] = [
     (Call::Send(36), Answer::Spent(36)),
 ];
 
-#[test]
-fn each_call_answers_as_its_row_says(rt: HostRuntime) -> Result<(), Fail> {
-    let (one, rest_one) = after_rows(rt.alloc(), 1, &ONE_SLOT)?;
-    let (two, rest_two) = after_rows(rt.alloc(), 2, &TWO_SLOTS)?;
-    let (three, rest_three) = after_rows(rt.alloc(), 3, &THREE_SLOTS)?;
-    let left = matches!(rest_one.as_slice(), [12]) && rest_two.is_empty();
-    let in_order = matches!(rest_three.as_slice(), [33, 34, 35]);
-    assert_eq!(rt;
-        ([one, two, three], left, in_order),
-        ([None; 3], true, true)
-    );
-    Ok(())
-}
-
 /// Whether no ring of so many slots is made, for this cause.
 fn is_refused(alloc: Global, slots: u32, fault: RingFault) -> bool {
-    match after_rows(alloc, slots, &ONE_SLOT) {
+    match new_ring::<u32>(alloc, slots, 6) {
         Ok(_) => false,
         Err(found) => found == fault,
     }
 }
 
+/// Each call answers as its row says, and a ring has one slot at least and a million at most.
 #[test]
-fn a_ring_has_one_slot_at_least_and_a_million_at_most(rt: HostRuntime) -> Result<(), Fail> {
-    let none = is_refused(rt.alloc(), 0, RingFault::NoSlots);
-    let many = is_refused(rt.alloc(), 1_048_577, RingFault::TooManySlots);
-    assert_eq!(rt; [none, many], [true; 2]);
+fn each_call_answers_as_its_row_says(rt: HostRuntime) -> Result<(), Fail> {
+    let alloc = rt.alloc();
+    let found = [
+        went(alloc, 1, &ONE_SLOT, &[12]),
+        went(alloc, 2, &TWO_SLOTS, &[]),
+        went(alloc, 3, &THREE_SLOTS, &[33, 34, 35]),
+        is_refused(alloc, 0, RingFault::NoSlots),
+        is_refused(alloc, 1_048_577, RingFault::TooManySlots),
+    ];
+    assert_eq!(rt; found, [true; 5]);
     Ok(())
 }

@@ -1,87 +1,97 @@
 //! A select over two rings: call by call, and by a thread that sleeps.
-ghost use Rattle.bridge_tests.specs.RingPasses.{IsOther};
+ghost use Rattle.bridge_tests.specs.RingPasses.{AreThree, IsOther};
 
 use crate::rings::ring_calls::{Three, new_ring};
 use ring_bridge::{Bells, Chosen, InOrder, ReceiveClause, SendClause, receive, select, send};
 use ring_channel::{Called, Ring, RingPass, SendOutcome};
+use std::alloc::AllocGlobal;
 use std::sync::Wait;
-use std::test::Fail;
 use std::thread::{Threads, join};
 
 /// How many numbers are sent on each ring.
 const NUMBERS: u32 = 1_000;
 
-#[test]
-fn the_first_clause_that_may_go_on_is_chosen(rt: HostRuntime) -> Result<(), Fail> {
-    let bells = Bells::new(rt.alloc())?;
-    let (ring, three) = new_ring::<u32>(rt.alloc(), 2, 100)?;
-    let (other, three_of_other) = new_ring::<u32>(rt.alloc(), 2, 100)?;
-    let Three { mut main, one, .. } = three;
-    let Three {
-        main: mut sender,
-        one: another,
-        ..
-    } = three_of_other;
-    let mut clause = InOrder {
-        first: ReceiveClause::new(&ring, one),
-        second: ReceiveClause::new(&other, another),
-    };
-    other.try_send(&mut sender, 7);
-    let second = select(&rt, &bells, &mut clause, 1);
-    let named = match ring.send(&mut main, 0, 5) {
-        SendOutcome::Sent { wakes, .. } => wakes.receivers == Called::Nobody,
-        _ => false,
-    };
-    other.try_send(&mut sender, 8);
-    let first = select(&rt, &bells, &mut clause, 1);
-    let then = select(&rt, &bells, &mut clause, 1);
-    ring.close(&mut main);
-    let over = select(&rt, &bells, &mut clause, 1);
-    assert_eq!(rt;
-        (second, named, first, then, over),
-        (
-            Chosen::Second(Some((0, 7))),
-            true,
-            Chosen::First(Some((0, 5))),
-            Chosen::Second(Some((1, 8))),
-            Chosen::First(None)
-        )
-    );
-    Ok(())
+/// What is checked: the functions of these names.
+#[derive(Clone, Copy)]
+pub(crate) enum Check {
+    TheFirstClauseThatMayGoOnIsChosen,
+    ASendThatHasNoRoomIsNotChosen,
+    AThreadThatSelectsReceivesAllOfBoth,
 }
 
-#[test]
-fn a_send_that_has_no_room_is_not_chosen(rt: HostRuntime) -> Result<(), Fail> {
-    let bells = Bells::new(rt.alloc())?;
-    let (ring, three) = new_ring::<u32>(rt.alloc(), 1, 100)?;
-    let (other, three_of_other) = new_ring::<u32>(rt.alloc(), 1, 100)?;
+/// The first clause that may go on is chosen.
+fn first_is_chosen<R: Wait>(
+    rt: &R,
+    bells: &Bells,
+    ring: &Ring<u32>,
+    three: Three<u32>,
+    other: &Ring<u32>,
+    of_other: Three<u32>,
+) -> bool
+    requires three { AreThree ring.now three.main three.one three.two }
+    requires of_other { AreThree other.now of_other.main of_other.one of_other.two }
+{
     let Three { mut main, one, .. } = three;
     let Three {
         main: mut sender,
         one: another,
         ..
-    } = three_of_other;
+    } = of_other;
+    let mut clause = InOrder {
+        first: ReceiveClause::new(ring, one),
+        second: ReceiveClause::new(other, another),
+    };
+    other.try_send(&mut sender, 7);
+    let second = select(rt, bells, &mut clause, 1);
+    let named = matches!(
+        ring.send(&mut main, 0, 5),
+        SendOutcome::Sent { wakes, .. } if wakes.receivers == Called::Nobody
+    );
+    other.try_send(&mut sender, 8);
+    let first = select(rt, bells, &mut clause, 1);
+    let then = select(rt, bells, &mut clause, 1);
+    ring.close(&mut main);
+    let over = select(rt, bells, &mut clause, 1);
+    let at_first = matches!(second, Chosen::Second(Some((0, 7)))) && named;
+    let by_turns = matches!(
+        (first, then),
+        (Chosen::First(Some((0, 5))), Chosen::Second(Some((1, 8))))
+    );
+    at_first && by_turns && matches!(over, Chosen::First(None))
+}
+
+/// A send that has no room is not chosen.
+fn no_room_is_not_chosen<R: Wait>(
+    rt: &R,
+    bells: &Bells,
+    ring: &Ring<u32>,
+    three: Three<u32>,
+    other: &Ring<u32>,
+    of_other: Three<u32>,
+) -> bool
+    requires three { AreThree ring.now three.main three.one three.two }
+    requires of_other { AreThree other.now of_other.main of_other.one of_other.two }
+{
+    let Three { mut main, one, .. } = three;
+    let Three {
+        main: mut sender,
+        one: another,
+        ..
+    } = of_other;
     ring.try_send(&mut main, 3);
     other.try_send(&mut sender, 7);
     let mut clause = InOrder {
-        first: SendClause::new(&ring, one, 4),
-        second: ReceiveClause::new(&other, another),
+        first: SendClause::new(ring, one, 4),
+        second: ReceiveClause::new(other, another),
     };
-    let received = match select(&rt, &bells, &mut clause, 1) {
-        Chosen::Second(Some(got)) => got == (0, 7),
-        _ => false,
-    };
-    let taken = receive(&rt, &ring, &bells, &mut main, 0);
-    let sent = match select(&rt, &bells, &mut clause, 1) {
-        Chosen::First(Ok(place)) => place == 1,
-        _ => false,
-    };
-    let then = receive(&rt, &ring, &bells, &mut main, 0);
-    assert_eq!(rt;
-        (received, taken, sent, then),
-        (true, Some((0, 3)), true, Some((1, 4)))
+    let received = matches!(
+        select(rt, bells, &mut clause, 1),
+        Chosen::Second(Some((0, 7)))
     );
-    Ok(())
+    let taken = matches!(receive(rt, ring, bells, &mut main, 0), Some((0, 3)));
+    let sent = matches!(select(rt, bells, &mut clause, 1), Chosen::First(Ok(1)));
+    let then = matches!(receive(rt, ring, bells, &mut main, 0), Some((1, 4)));
+    received && taken && sent && then
 }
 
 /// Sends the numbers from 0 on, each on one ring and then on the other.
@@ -159,27 +169,80 @@ fn by_two<R: Threads + Wait + Sync>(
     due
 }
 
-#[test]
-fn a_thread_that_selects_receives_all_of_both(rt: HostRuntime) -> Result<(), Fail> {
-    let bells = Bells::new(rt.alloc())?;
-    let (ring, three) = new_ring::<u32>(rt.alloc(), 1, u64::from(NUMBERS))?;
-    let (other, three_of_other) = new_ring::<u32>(rt.alloc(), 1, u64::from(NUMBERS))?;
+/// A thread that selects receives all of both.
+fn receives_all<R: Threads + Wait + Sync>(
+    rt: &R,
+    bells: &Bells,
+    ring: &Ring<u32>,
+    three: Three<u32>,
+    other: &Ring<u32>,
+    of_other: Three<u32>,
+) -> bool
+    requires three { AreThree ring.now three.main three.one three.two }
+    requires of_other { AreThree other.now of_other.main of_other.one of_other.two }
+{
     let Three { one, two, .. } = three;
     let Three {
         one: another_one,
         two: another_two,
         ..
-    } = three_of_other;
-    let due = by_two(
-        &rt,
-        &bells,
-        &ring,
-        one,
-        two,
-        &other,
-        another_one,
-        another_two,
-    );
-    assert_eq!(rt; due, [NUMBERS; 2]);
-    Ok(())
+    } = of_other;
+    let due = by_two(rt, bells, ring, one, two, other, another_one, another_two);
+    due == [NUMBERS; 2]
+}
+
+/// Whether this check went as its name says on these rings.
+fn went_on<R: Threads + Wait + Sync>(
+    rt: &R,
+    bells: &Bells,
+    ring: &Ring<u32>,
+    three: Three<u32>,
+    other: &Ring<u32>,
+    of_other: Three<u32>,
+    check: Check,
+) -> bool
+    requires three { AreThree ring.now three.main three.one three.two }
+    requires of_other { AreThree other.now of_other.main of_other.one of_other.two }
+{
+    match check {
+        Check::TheFirstClauseThatMayGoOnIsChosen => {
+            first_is_chosen(rt, bells, ring, three, other, of_other)
+        }
+        Check::ASendThatHasNoRoomIsNotChosen => {
+            no_room_is_not_chosen(rt, bells, ring, three, other, of_other)
+        }
+        Check::AThreadThatSelectsReceivesAllOfBoth => {
+            receives_all(rt, bells, ring, three, other, of_other)
+        }
+    }
+}
+
+/// The same with a second ring of its own.
+fn went_beside<R: Threads + Wait + Sync + AllocGlobal>(
+    rt: &R,
+    bells: &Bells,
+    ring: &Ring<u32>,
+    three: Three<u32>,
+    slots: u32,
+    check: Check,
+) -> bool
+    requires three { AreThree ring.now three.main three.one three.two }
+{
+    match new_ring::<u32>(rt.alloc(), slots, 1_000) {
+        Ok((other, of_other)) => went_on(rt, bells, ring, three, &other, of_other, check),
+        Err(_) => false,
+    }
+}
+
+/// The same with two rings of so many slots.
+pub(crate) fn went<R: Threads + Wait + Sync + AllocGlobal>(
+    rt: &R,
+    bells: &Bells,
+    slots: u32,
+    check: Check,
+) -> bool {
+    match new_ring::<u32>(rt.alloc(), slots, 1_000) {
+        Ok((ring, three)) => went_beside(rt, bells, &ring, three, slots, check),
+        Err(_) => false,
+    }
 }

@@ -5,8 +5,7 @@ ghost use Rattle.bridge_tests.specs.RingPasses.{AreThree};
 
 use crate::rings::ring_calls::{Three, new_ring, rest_of};
 use ring_channel::{
-    Called, Closing, ReceiveOutcome, Ring, RingFault, RingGot, RingPass, RingSent, RingSide,
-    SendOutcome,
+    Called, Closing, ReceiveOutcome, Ring, RingGot, RingPass, RingSent, RingSide, SendOutcome,
 };
 use std::alloc::Global;
 use std::test::Fail;
@@ -122,16 +121,15 @@ fn first_wrong(
     wrong
 }
 
-/// A ring of so many slots on which these calls are made. Answers which was wrong, and how many values are left.
-fn after_rows(
-    alloc: Global,
-    slots: u32,
-    rows: &[(By, Call, Answer)],
-) -> Result<(Option<usize>, usize), RingFault> {
-    let (ring, mut three) = new_ring::<u32>(alloc, slots, 6)?;
+/// Makes these calls on a ring of so many slots. Whether each answered as its row says, and so many values are left.
+fn went(alloc: Global, slots: u32, rows: &[(By, Call, Answer)], left: usize) -> bool {
+    let Ok((ring, mut three)) = new_ring::<u32>(alloc, slots, 6) else {
+        return false;
+    };
     let wrong = first_wrong(&ring, &mut three, rows);
     let Three { main, one, two } = three;
-    Ok((wrong, rest_of(ring, main, one, two).len()))
+    let rest = rest_of(ring, main, one, two);
+    wrong.is_none() && rest.len() == left
 }
 
 const RECEIVE: RingSide = RingSide::Receive;
@@ -231,13 +229,13 @@ const NOBODY_CLOSES: Answer = Answer::Closes(Closing {
 
 #[test]
 fn who_waits_is_named_once_there_is_something_for_it(rt: HostRuntime) -> Result<(), Fail> {
-    let one = after_rows(rt.alloc(), 1, &ONE_SLOT)?;
-    let two = after_rows(rt.alloc(), 2, &TWO_SLOTS)?;
-    let three = after_rows(rt.alloc(), 3, &THREE_SLOTS)?;
-    let whole = after_rows(rt.alloc(), 1, &WHOLE_CALLS)?;
-    assert_eq!(rt;
-        [one, two, three, whole],
-        [(None, 1), (None, 0), (None, 0), (None, 0)]
-    );
+    let alloc = rt.alloc();
+    let found = [
+        went(alloc, 1, &ONE_SLOT, 1),
+        went(alloc, 2, &TWO_SLOTS, 0),
+        went(alloc, 3, &THREE_SLOTS, 0),
+        went(alloc, 1, &WHOLE_CALLS, 0),
+    ];
+    assert_eq!(rt; found, [true; 4]);
     Ok(())
 }

@@ -1,17 +1,21 @@
 //! Four coroutines, at work on one, two or four threads at once.
-ghost use Rattle.std.specs.Prelude.{[], ◌∷◌};
+ghost use Rattle.std.specs.Prelude.{◌≡◌, ◌≤◌, false, [], ◌∷◌};
+ghost use Rattle.channel_model.specs.Channels.{is_signal};
 ghost use Rattle.cell_words.specs.Hubs.{IsOf, IsOwn, GivesTags};
 ghost use Rattle.word_bench.specs.Channels.{CarryElements};
 
 use crate::channels::apart::{receive_next, send};
-use crate::channels::on_passes::{offer, receive};
+use crate::channels::on_passes::{new_hub, offer, receive};
 use crate::channels::waits::select;
-use crate::shares::by_four;
+use crate::shares::{by_four, sum};
+use crate::told::{Done, now};
 use cell_words::{Hub, Pass};
-use channel_model::{Got, Offered};
+use channel_model::{Got, Kind, Offered};
 use co_base::{Tag, Value};
+use std::alloc::AllocGlobal;
 use std::sync::Wait;
 use std::thread::Threads;
+use std::time::Clock;
 
 /// What a coroutine does in each turn.
 #[derive(Clone, Copy)]
@@ -26,75 +30,28 @@ pub(crate) enum Work {
     Selects,
 }
 
-/// A coroutine with its pass.
+/// The passes of the tags 1 to 4.
 #[derive(Drop)]
-pub(crate) struct Caller {
-    pub pass: Pass,
-    pub who: Tag,
-    pub work: Work,
-    /// How many transfers it counts: those of its calls that found a receiver, or an element. One that only sends counts none.
-    pub met: u32,
+struct Four {
+    a: Pass,
+    b: Pass,
+    c: Pass,
+    d: Pass,
 }
 
-/// Four coroutines of one hub.
-#[derive(Drop)]
-pub(crate) struct Four {
-    pub a: Caller,
-    pub b: Caller,
-    pub c: Caller,
-    pub d: Caller,
-}
-
-impl Four {
-    /// How many transfers all count.
-    pub(crate) fn count(&self) -> u32 {
-        self.a
-            .met
-            .saturating_add(self.b.met)
-            .saturating_add(self.c.met)
-            .saturating_add(self.d.met)
-    }
-}
-
-/// The coroutines with the tags 1 to 4. Two of them do the first work, and two the other.
-pub(crate) fn four_callers(hub: &Hub, main: &mut Pass, first: Work, other: Work) -> Four
+fn four_passes(hub: &Hub, main: &mut Pass) -> Four
     requires of { IsOf hub.now main.old }
     requires gives { GivesTags (0 ∷ []) main.old }
-    ensures a { IsOwn hub.now result.a.pass result.a.who }
-    ensures b { IsOwn hub.now result.b.pass result.b.who }
-    ensures c { IsOwn hub.now result.c.pass result.c.who }
-    ensures d { IsOwn hub.now result.d.pass result.d.who }
+    ensures a { IsOwn hub.now result.a 1 }
+    ensures b { IsOwn hub.now result.b 2 }
+    ensures c { IsOwn hub.now result.c 3 }
+    ensures d { IsOwn hub.now result.d 4 }
 {
     let a = hub.split(main, 1);
     let b = hub.split(main, 2);
     let c = hub.split(main, 3);
     let d = hub.split(main, 4);
-    Four {
-        a: Caller {
-            pass: a,
-            who: 1,
-            work: first,
-            met: 0,
-        },
-        b: Caller {
-            pass: b,
-            who: 2,
-            work: first,
-            met: 0,
-        },
-        c: Caller {
-            pass: c,
-            who: 3,
-            work: other,
-            met: 0,
-        },
-        d: Caller {
-            pass: d,
-            who: 4,
-            work: other,
-            met: 0,
-        },
-    }
+    Four { a, b, c, d }
 }
 
 fn offers(hub: &Hub, pass: &mut Pass, who: Tag, value: Value) -> bool
@@ -169,54 +126,74 @@ fn gave_up(work: Work, first: bool, second: bool) -> bool {
     }
 }
 
-/// So many turns, or fewer if a wait is given up: its partner will not come, and a wait more would be as long.
-fn work_on(hub: &Hub, caller: Caller, times: u32) -> Caller
+/// So many turns, or fewer if a wait is given up: its partner will not come, and a wait more would be as long. How many transfers it
+/// counts: those of its calls that found a receiver, or an element. One that only sends counts none.
+fn work_on(hub: &Hub, pass: &mut Pass, who: Tag, work: Work, times: u32) -> u32
     requires channels { CarryElements hub.now }
-    requires own { IsOwn hub.now caller.pass caller.who }
-    ensures own { IsOwn hub.now result.pass result.who }
+    requires own { IsOwn hub.now pass.old who }
 {
-    let Caller {
-        mut pass,
-        who,
-        work,
-        met: _,
-    } = caller;
     let mut met = 0u32;
     for i in 0..times {
-        let (first, second) = turn(hub, &mut pass, who, work, i);
+        let (first, second) = turn(hub, pass, who, work, i);
         met = met.saturating_add(counted(work, first, second));
         if gave_up(work, first, second) {
             break;
         }
     }
-    Caller {
-        pass,
-        who,
-        work,
-        met,
-    }
+    met
 }
 
-/// The work of four, by so many threads, which are none, one, two or four.
-pub(crate) fn work_by<R: Threads + Wait + Sync>(
+/// The work of four, of whom two do the first work and two the other: how many transfers all count.
+fn work_by<R: Threads + Wait + Sync>(
     rt: &R,
     hub: &Hub,
     four: Four,
+    work: (Work, Work),
     times: u32,
     threads: u32,
-) -> Four
+) -> u32
     requires channels { CarryElements hub.now }
-    requires a { IsOwn hub.now four.a.pass four.a.who }
-    requires b { IsOwn hub.now four.b.pass four.b.who }
-    requires c { IsOwn hub.now four.c.pass four.c.who }
-    requires d { IsOwn hub.now four.d.pass four.d.who }
+    requires a { IsOwn hub.now four.a 1 }
+    requires b { IsOwn hub.now four.b 2 }
+    requires c { IsOwn hub.now four.c 3 }
+    requires d { IsOwn hub.now four.d 4 }
 {
-    if threads == 0 {
-        return four;
-    }
-    let Four { a, b, c, d } = four;
-    let left = (|| work_on(hub, a, times), || work_on(hub, b, times));
-    let right = (|| work_on(hub, c, times), || work_on(hub, d, times));
-    let ((a, b), (c, d)) = by_four(rt, threads, left, right);
-    Four { a, b, c, d }
+    let Four {
+        mut a,
+        mut b,
+        mut c,
+        mut d,
+    } = four;
+    let (first, other) = work;
+    let left = (
+        || work_on(hub, &mut a, 1, first, times),
+        || work_on(hub, &mut b, 2, first, times),
+    );
+    let right = (
+        || work_on(hub, &mut c, 3, other, times),
+        || work_on(hub, &mut d, 4, other, times),
+    );
+    sum(by_four(rt, threads, left, right))
+}
+
+/// How many transfers four coroutines count in so many turns each, on two channels of this kind with so many places each, by so many
+/// threads, which are none, one, two or four.
+pub(crate) fn met_by_four<R: Threads + Wait + Sync + Clock + AllocGlobal>(
+    rt: &R,
+    kind: Kind,
+    places: u32,
+    work: (Work, Work),
+    times: u32,
+    threads: u32,
+) -> Done
+    requires elements { is_signal kind ≡ false }
+    requires places { (1 ≤ places) × (places ≤ 1048576) }
+{
+    let Ok((hub, mut main)) = new_hub(rt.alloc(), kind, places, places) else {
+        return None;
+    };
+    let four = four_passes(&hub, &mut main);
+    let begun = now(rt);
+    let met = work_by(rt, &hub, four, work, times, threads);
+    Some((u64::from(met), begun))
 }

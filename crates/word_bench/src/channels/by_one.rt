@@ -1,14 +1,31 @@
 //! Work of one pass: on a buffered channel that is nearly full, and behind receivers that were withdrawn.
+ghost use Rattle.std.specs.Prelude.{◌≡◌, ◌≤◌, false};
+ghost use Rattle.channel_model.specs.Channels.{is_signal};
 ghost use Rattle.cell_words.specs.Hubs.{IsOwn};
 ghost use Rattle.word_bench.specs.Channels.{CarryElements};
 
-use crate::channels::on_passes::{admit, mark, offer, receive, try_offer};
+use crate::channels::on_passes::{admit, mark, new_hub, offer, receive, try_offer};
 use crate::channels::waits::withdraw;
+use crate::told::{Done, now};
 use cell_words::{Hub, Pass};
-use channel_model::{Got, TriedOffer};
+use channel_model::{Got, Kind, TriedOffer};
+use std::alloc::AllocGlobal;
+use std::time::Clock;
+
+/// How often each of these is done.
+#[derive(Clone, Copy)]
+pub(crate) struct Times {
+    /// Offers, before the clock runs.
+    pub queued: u32,
+    /// Receives that are taken back, before the clock runs.
+    pub withdrawn: u32,
+    pub transfers: u32,
+    /// Offers that do not wait.
+    pub tries: u32,
+}
 
 /// So many offers.
-pub(crate) fn fill(hub: &Hub, pass: &mut Pass, times: u32)
+fn fill(hub: &Hub, pass: &mut Pass, times: u32)
     requires channels { CarryElements hub.now }
     requires own { IsOwn hub.now pass.old 0 }
     ensures own { IsOwn hub.now pass.new 0 }
@@ -19,7 +36,7 @@ pub(crate) fn fill(hub: &Hub, pass: &mut Pass, times: u32)
 }
 
 /// So many transfers, each an offer, a receive and the look behind it for an offer that may be kept now. How many found an element.
-pub(crate) fn transfer(hub: &Hub, pass: &mut Pass, times: u32) -> u32
+fn transfer(hub: &Hub, pass: &mut Pass, times: u32) -> u32
     requires channels { CarryElements hub.now }
     requires own { IsOwn hub.now pass.old 0 }
     ensures own { IsOwn hub.now pass.new 0 }
@@ -37,7 +54,7 @@ pub(crate) fn transfer(hub: &Hub, pass: &mut Pass, times: u32) -> u32
 }
 
 /// So many receives that are taken back.
-pub(crate) fn give_up(hub: &Hub, pass: &mut Pass, times: u32)
+fn give_up(hub: &Hub, pass: &mut Pass, times: u32)
     requires channels { CarryElements hub.now }
     requires own { IsOwn hub.now pass.old 0 }
     ensures own { IsOwn hub.now pass.new 0 }
@@ -50,7 +67,7 @@ pub(crate) fn give_up(hub: &Hub, pass: &mut Pass, times: u32)
 }
 
 /// So many offers that do not wait. How many found nobody.
-pub(crate) fn try_offers(hub: &Hub, pass: &mut Pass, times: u32) -> u32
+fn try_offers(hub: &Hub, pass: &mut Pass, times: u32) -> u32
     requires channels { CarryElements hub.now }
     requires own { IsOwn hub.now pass.old 0 }
     ensures own { IsOwn hub.now pass.new 0 }
@@ -62,4 +79,25 @@ pub(crate) fn try_offers(hub: &Hub, pass: &mut Pass, times: u32) -> u32
         }
     }
     full
+}
+
+/// All of that on one channel with so many places: how many transfers found an element, and offers nobody.
+pub(crate) fn done_by_one<R: Clock + AllocGlobal>(
+    rt: &R,
+    kind: Kind,
+    places: u32,
+    times: Times,
+) -> Done
+    requires elements { is_signal kind ≡ false }
+    requires places { (1 ≤ places) × (places ≤ 1048576) }
+{
+    let Ok((hub, mut main)) = new_hub(rt.alloc(), kind, places, 1) else {
+        return None;
+    };
+    fill(&hub, &mut main, times.queued);
+    give_up(&hub, &mut main, times.withdrawn);
+    let begun = now(rt);
+    let met = transfer(&hub, &mut main, times.transfers);
+    let full = try_offers(&hub, &mut main, times.tries);
+    Some((u64::from(met.saturating_add(full)), begun))
 }

@@ -1,9 +1,11 @@
 //! Tickets through lanes: each worker puts its part of them into its own lane, and takes from its own and from the others.
+ghost use Rattle.std.specs.Prelude.{◌≤◌};
 
+use crate::shares::{by_four, sum};
 use co_base::Memory;
 use std::alloc::Global;
 use std::sync::Wait;
-use std::thread::{Threads, join};
+use std::thread::Threads;
 use steal_lanes::{Lane, lanes};
 
 // A worker takes after so many puts.
@@ -37,42 +39,23 @@ fn take(lane: &mut Lane, most: u32) -> u32 {
     taken
 }
 
-/// All tickets through one lane.
-pub(crate) fn by_one(alloc: Global, tickets: u32) -> Result<u32, Memory> {
-    let mut all = lanes(alloc, 1, BATCH)?;
-    Ok(work(all.pop(), tickets, tickets))
-}
-
-/// All tickets through two lanes, by a thread each.
-pub(crate) fn by_two<R: Threads + Wait + Sync>(
+/// All tickets through so many lanes, which are one, two or four, by a thread each. Answers how many were taken.
+pub(crate) fn taken_by<R: Threads + Wait + Sync>(
     rt: &R,
     alloc: Global,
+    workers: u8,
     tickets: u32,
-) -> Result<u32, Memory> {
-    let mut all = lanes(alloc, 2, BATCH)?;
-    let part = tickets / 2;
-    let a = all.pop();
-    let b = all.pop();
-    let (x, y) = join(rt, || work(a, part, tickets), || work(b, part, tickets));
-    Ok(x.saturating_add(y))
-}
-
-/// All tickets through four lanes, by a thread each.
-pub(crate) fn by_four<R: Threads + Wait + Sync>(
-    rt: &R,
-    alloc: Global,
-    tickets: u32,
-) -> Result<u32, Memory> {
-    let mut all = lanes(alloc, 4, BATCH)?;
-    let part = tickets / 4;
+) -> Result<u32, Memory>
+    requires workers { (1 ≤ workers) × (workers ≤ 4) }
+{
+    let part = tickets / u32::from(workers);
+    let mut all = lanes(alloc, workers, BATCH)?;
     let a = all.pop();
     let b = all.pop();
     let c = all.pop();
     let d = all.pop();
-    let ((x, y), (z, w)) = join(
-        rt,
-        || { join(rt, || work(a, part, tickets), || work(b, part, tickets)) },
-        || { join(rt, || work(c, part, tickets), || work(d, part, tickets)) },
-    );
-    Ok(x.saturating_add(y).saturating_add(z).saturating_add(w))
+    // By two threads the first does the shares of the left, of which the second is none where there are two lanes.
+    let left = (|| work(a, part, tickets), || work(c, part, tickets));
+    let right = (|| work(b, part, tickets), || work(d, part, tickets));
+    Ok(sum(by_four(rt, u32::from(workers), left, right)))
 }

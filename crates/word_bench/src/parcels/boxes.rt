@@ -5,33 +5,35 @@ ghost use Rattle.parcel_channel.specs.Hubs.{IsOf};
 ghost use Rattle.word_bench.specs.Passes.{IsMain, IsOther, Keeps};
 
 use crate::shares::by_four;
+use crate::told::{Done, now};
 use channel_model::Kind;
 use co_base::Memory;
 use parcel_channel::{ParcelGot, ParcelHub, ParcelPass, ParcelSent};
-use std::alloc::Global;
+use std::alloc::{AllocGlobal, Global};
 use std::sync::Wait;
 use std::thread::Threads;
+use std::time::Clock;
 
 /// What is sent.
 pub(crate) type Parcel = Box<[u64; 16]>;
 
 /// A pass, and how many of its calls found their partner.
 #[derive(Drop)]
-pub(crate) struct Worker {
-    pub pass: ParcelPass<Parcel>,
-    pub met: u32,
+struct Worker {
+    pass: ParcelPass<Parcel>,
+    met: u32,
 }
 
 /// Four passes of one channel. The first gave out the tags of the others.
-pub(crate) struct FourPasses {
-    pub a: ParcelPass<Parcel>,
-    pub b: ParcelPass<Parcel>,
-    pub c: ParcelPass<Parcel>,
-    pub d: ParcelPass<Parcel>,
+struct FourPasses {
+    a: ParcelPass<Parcel>,
+    b: ParcelPass<Parcel>,
+    c: ParcelPass<Parcel>,
+    d: ParcelPass<Parcel>,
 }
 
 /// A channel with so many places, and four passes of it.
-pub(crate) fn new_channel(
+fn new_channel(
     alloc: Global,
     kind: Kind,
     places: u32,
@@ -130,8 +132,8 @@ fn work_by<R: Threads + Wait + Sync>(
     by_four(rt, threads, left, right)
 }
 
-/// So many transfers by each of the four, on so many threads, which are one, two or four. Answers how many calls found their partner.
-pub(crate) fn send_by<R: Threads + Wait + Sync>(
+/// So many transfers by each of the four. Answers how many calls found their partner.
+fn send_by<R: Threads + Wait + Sync>(
     rt: &R,
     hub: ParcelHub<Parcel>,
     four: FourPasses,
@@ -146,4 +148,23 @@ pub(crate) fn send_by<R: Threads + Wait + Sync>(
 {
     let workers = work_by(rt, &hub, four, alloc, times, threads);
     give_up(hub, workers)
+}
+
+/// The same on a channel of this kind with so many places, by so many threads, which are one, two or four.
+pub(crate) fn sent_by<R: Threads + Wait + Sync + Clock + AllocGlobal>(
+    rt: &R,
+    kind: Kind,
+    places: u32,
+    times: u32,
+    threads: u32,
+) -> Done
+    requires kind { KeepsAll kind }
+    requires places { (1 ≤ places) × (places ≤ 1048576) }
+{
+    let Ok((hub, four)) = new_channel(rt.alloc(), kind, places) else {
+        return None;
+    };
+    let begun = now(rt);
+    let met = send_by(rt, hub, four, rt.alloc(), times, threads);
+    Some((u64::from(met), begun))
 }

@@ -2,10 +2,12 @@
 
 use crate::parcels::boxes::Parcel;
 use crate::shares::{by_four, sum};
+use crate::told::{Done, now};
 use crossbeam_channel::{Receiver, Sender, bounded};
-use std::alloc::Global;
+use std::alloc::{AllocGlobal, Global};
 use std::sync::Wait;
 use std::thread::Threads;
+use std::time::Clock;
 
 /// So many sends and as many receives, by turns. Answers how many boxes came.
 fn work<R: Wait>(
@@ -26,15 +28,16 @@ fn work<R: Wait>(
     came
 }
 
-/// So many transfers by each of four, through a channel that keeps so many boxes, on so many threads, which are one, two or four. Answers
-/// how many boxes came, or none if no channel could be made.
-pub(crate) fn sent_by<R: Threads + Wait + Sync>(
+/// So many transfers by each of four, through a channel that keeps so many boxes, on so many threads, which are one, two or four: how many
+/// boxes came.
+pub(crate) fn exchanged_by<R: Threads + Wait + Sync + Clock + AllocGlobal>(
     rt: &R,
-    alloc: Global,
     slots: usize,
     times: u32,
     threads: u32,
-) -> Option<u32> {
+) -> Done {
+    let begun = now(rt);
+    let alloc = rt.alloc();
     let Ok((sender, receiver)) = bounded::<Parcel, Global>(alloc, slots) else {
         return None;
     };
@@ -47,5 +50,5 @@ pub(crate) fn sent_by<R: Threads + Wait + Sync>(
         || work(rt, sender, receiver, alloc, times),
         || work(rt, sender, receiver, alloc, times),
     );
-    Some(sum(by_four(rt, threads, left, right)))
+    Some((u64::from(sum(by_four(rt, threads, left, right))), begun))
 }

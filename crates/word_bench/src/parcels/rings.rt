@@ -3,10 +3,12 @@ ghost use Rattle.word_bench.specs.Rings.{IsPass};
 
 use crate::parcels::boxes::Parcel;
 use crate::shares::{by_four, sum};
+use crate::told::{Done, now};
 use ring_channel::{ReceiveOutcome, Ring, RingPass, SendOutcome};
-use std::alloc::Global;
+use std::alloc::{AllocGlobal, Global};
 use std::sync::Wait;
 use std::thread::Threads;
+use std::time::Clock;
 
 /// How often a call is tried.
 const TRIES: u32 = 100_000_000;
@@ -50,43 +52,49 @@ fn receive_one(ring: &Ring<Parcel>, pass: &mut RingPass<Parcel>, tag: u32) -> bo
 }
 
 /// So many sends and as many receives, by turns. Answers how many boxes came.
-fn work(ring: &Ring<Parcel>, mut pass: RingPass<Parcel>, tag: u32, alloc: Global, times: u32) -> u32
-    requires pass { IsPass ring.now tag pass }
+fn work(
+    ring: &Ring<Parcel>,
+    pass: &mut RingPass<Parcel>,
+    tag: u32,
+    alloc: Global,
+    times: u32,
+) -> u32
+    requires pass { IsPass ring.now tag pass.old }
 {
     let mut came = 0u32;
     for i in 0..times {
         if let Ok(parcel) = Box::new(alloc, [i as u64; 16]) {
-            let sent = send_one(ring, &mut pass, tag, parcel);
-            let received = receive_one(ring, &mut pass, tag);
+            let sent = send_one(ring, pass, tag, parcel);
+            let received = receive_one(ring, pass, tag);
             came = came.saturating_add(u32::from(sent && received));
         }
     }
     came
 }
 
-/// So many transfers by each of four, through a ring of so many slots, on so many threads, which are one, two or four. Answers how many
-/// boxes came, or none if no ring could be made.
-pub(crate) fn moved_by<R: Threads + Wait + Sync>(
+/// So many transfers by each of four, through a ring of so many slots, on so many threads, which are one, two or four: how many boxes came.
+pub(crate) fn moved_by<R: Threads + Wait + Sync + Clock + AllocGlobal>(
     rt: &R,
-    alloc: Global,
     slots: u32,
     times: u32,
     threads: u32,
-) -> Option<u32> {
+) -> Done {
+    let begun = now(rt);
+    let alloc = rt.alloc();
     let Ok((ring, mut a)) = Ring::<Parcel>::new(alloc, slots) else {
         return None;
     };
-    let b = ring.split(&mut a, 1);
-    let c = ring.split(&mut a, 2);
-    let d = ring.split(&mut a, 3);
+    let mut b = ring.split(&mut a, 1);
+    let mut c = ring.split(&mut a, 2);
+    let mut d = ring.split(&mut a, 3);
     let ring = &ring;
     let left = (
-        || work(ring, a, 0, alloc, times),
-        || work(ring, b, 1, alloc, times),
+        || work(ring, &mut a, 0, alloc, times),
+        || work(ring, &mut b, 1, alloc, times),
     );
     let right = (
-        || work(ring, c, 2, alloc, times),
-        || work(ring, d, 3, alloc, times),
+        || work(ring, &mut c, 2, alloc, times),
+        || work(ring, &mut d, 3, alloc, times),
     );
-    Some(sum(by_four(rt, threads, left, right)))
+    Some((u64::from(sum(by_four(rt, threads, left, right))), begun))
 }

@@ -1,8 +1,10 @@
 //! The kit's lock, taken and freed by one, two or four threads at once.
 
 use crate::shares::by_four;
+use crate::told::{Done, now};
 use std::sync::{Mutex, Wait};
 use std::thread::Threads;
+use std::time::Clock;
 
 /// Takes the lock the stated number of times, and adds to the number behind it.
 fn lock_often<R: Wait>(rt: &R, lock: &Mutex<u64>, times: u32) {
@@ -13,7 +15,12 @@ fn lock_often<R: Wait>(rt: &R, lock: &Mutex<u64>, times: u32) {
 }
 
 /// The same by four, by one, two or four threads: the number in the end.
-pub(crate) fn locked_by_four<R: Threads + Wait + Sync>(rt: &R, times: u32, threads: u32) -> u64 {
+pub(crate) fn locked_by_four<R: Threads + Wait + Sync + Clock>(
+    rt: &R,
+    times: u32,
+    threads: u32,
+) -> Done {
+    let begun = now(rt);
     let lock = &Mutex::new(0u64);
     let left = (
         || lock_often(rt, lock, times),
@@ -25,5 +32,5 @@ pub(crate) fn locked_by_four<R: Threads + Wait + Sync>(rt: &R, times: u32, threa
     );
     by_four(rt, threads, left, right);
     let number = lock.lock(rt);
-    *number
+    Some((*number, begun))
 }

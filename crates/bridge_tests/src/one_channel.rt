@@ -1,0 +1,128 @@
+//! Streams, sinks and lists on one channel: each check has the channel and the passes of the tags 1 and 2, which were not used.
+ghost use Rattle.std.specs.Prelude.{◌≡◌, ◌≤◌, false, IfOk};
+ghost use Rattle.channel_model.specs.Channels.{is_signal};
+ghost use Rattle.bridge_tests.specs.HubPasses.{AreTwo};
+
+use crate::{at_once, lists, streams, together};
+use cell_words::{Hub, Pass};
+use channel_model::Kind;
+use co_base::Memory;
+use std::alloc::{AllocGlobal, Global};
+use std::random::RandomSource;
+use std::sync::Wait;
+use std::test::Fail;
+use std::thread::Threads;
+
+/// What is checked: the functions of these names.
+#[derive(Clone, Copy)]
+enum Check {
+    AllElementsOfAClosedChannelComeInOrder,
+    TheFaultIsTheLastItem,
+    AStreamThatIsStoppedGivesItsElementUp,
+    AStreamThatDoesNotWaitHasNoneToGiveUp,
+    AStreamThatIsDroppedTakesItsWaitBack,
+    ACollectThatIsDroppedTakesItsWaitBack,
+    AStreamThatWaitsStaysAtItsPlace,
+    ADriveThatFailsMakesNoEntry,
+    AListIsSentInOrder,
+    AListIsNotSentToAClosedChannel,
+    AListEndsWhereNoPlaceIsLeft,
+    AListWhoseDriveFailsIsNotSent,
+    ASenderAndAReceiverMeetUnderOneDrive,
+    WhatOneThreadSendsTheOtherReceivesInOrder,
+}
+
+/// A channel of this kind with so many places, and two passes of it.
+fn new_channel(alloc: Global, kind: Kind, places: u32) -> Result<(Hub, Pass, Pass), Memory>
+    requires elements { is_signal kind ≡ false }
+    requires places { (1 ≤ places) × (places ≤ 1048576) }
+    ensures two { IfOk result (λ r. AreTwo r.0 r.1 r.2) }
+{
+    let (hub, mut main) = Hub::new(alloc, &[(kind, places)])?;
+    let one = hub.split(&mut main, 1);
+    let two = hub.split(&mut main, 2);
+    Ok((hub, one, two))
+}
+
+/// Whether this check went as its name says.
+fn went_on<R: Threads + Wait + RandomSource + AllocGlobal + Sync>(
+    rt: &R,
+    hub: &Hub,
+    one: Pass,
+    two: Pass,
+    check: Check,
+) -> bool
+    requires two { AreTwo hub.now one two }
+{
+    match check {
+        Check::AllElementsOfAClosedChannelComeInOrder => streams::all_come(rt, hub, one, two),
+        Check::TheFaultIsTheLastItem => streams::fault_is_last(rt, hub, one, two),
+        Check::AStreamThatIsStoppedGivesItsElementUp => streams::is_stopped(rt, hub, one, two),
+        Check::AStreamThatDoesNotWaitHasNoneToGiveUp => streams::is_idle(hub, one, two),
+        Check::AStreamThatIsDroppedTakesItsWaitBack => streams::is_dropped(rt, hub, one, two),
+        Check::ACollectThatIsDroppedTakesItsWaitBack => streams::drops_collect(rt, hub, one, two),
+        Check::AStreamThatWaitsStaysAtItsPlace => streams::stays(rt, hub, one, two),
+        Check::ADriveThatFailsMakesNoEntry => streams::fails(rt, hub, one, two),
+        Check::AListIsSentInOrder => lists::is_sent(rt, hub, one, two),
+        Check::AListIsNotSentToAClosedChannel => lists::is_not_sent(rt, hub, one, two),
+        Check::AListEndsWhereNoPlaceIsLeft => lists::ends(rt, hub, one, two),
+        Check::AListWhoseDriveFailsIsNotSent => lists::fails(hub, one, two),
+        Check::ASenderAndAReceiverMeetUnderOneDrive => together::meet(rt, hub, one, two),
+        Check::WhatOneThreadSendsTheOtherReceivesInOrder => at_once::come(rt, hub, one, two),
+    }
+}
+
+/// The same on a channel of this kind with so many places.
+fn went<R: Threads + Wait + RandomSource + AllocGlobal + Sync>(
+    rt: &R,
+    check: Check,
+    kind: Kind,
+    places: u32,
+) -> bool
+    requires elements { is_signal kind ≡ false }
+    requires places { (1 ≤ places) × (places ≤ 1048576) }
+{
+    match new_channel(rt.alloc(), kind, places) {
+        Ok((hub, one, two)) => went_on(rt, &hub, one, two, check),
+        Err(_) => false,
+    }
+}
+
+#[test]
+fn each_check_goes_as_its_name_says(rt: HostRuntime) -> Result<(), Fail> {
+    let met = Kind::Rendezvous;
+    let all = Kind::Unlimited;
+    let found = [
+        went(
+            &rt,
+            Check::AllElementsOfAClosedChannelComeInOrder,
+            Kind::Buffered(2),
+            4,
+        ),
+        went(&rt, Check::TheFaultIsTheLastItem, met, 1),
+        went(&rt, Check::AStreamThatIsStoppedGivesItsElementUp, met, 4),
+        went(&rt, Check::AStreamThatDoesNotWaitHasNoneToGiveUp, met, 4),
+        went(&rt, Check::AStreamThatIsDroppedTakesItsWaitBack, met, 4),
+        went(&rt, Check::ACollectThatIsDroppedTakesItsWaitBack, met, 4),
+        went(&rt, Check::AStreamThatWaitsStaysAtItsPlace, met, 2),
+        went(
+            &rt,
+            Check::ADriveThatFailsMakesNoEntry,
+            Kind::Buffered(2),
+            4,
+        ),
+        went(&rt, Check::AListIsSentInOrder, all, 4),
+        went(&rt, Check::AListIsNotSentToAClosedChannel, all, 4),
+        went(&rt, Check::AListEndsWhereNoPlaceIsLeft, all, 1),
+        went(&rt, Check::AListWhoseDriveFailsIsNotSent, all, 4),
+        went(&rt, Check::ASenderAndAReceiverMeetUnderOneDrive, met, 8),
+        went(
+            &rt,
+            Check::WhatOneThreadSendsTheOtherReceivesInOrder,
+            Kind::Buffered(64),
+            10_001,
+        ),
+    ];
+    assert_eq!(rt; found, [true; 14]);
+    Ok(())
+}
