@@ -7,7 +7,6 @@ ghost use Rattle.report_picture.specs.Pictures.{StandInColumns, StandInOrder, is
 
 use crate::causes::causes_of;
 use crate::columns::Wanted;
-use crate::lists::{Gathered, filled, put};
 use crate::notes::Note;
 use crate::order::order_of;
 use crate::picture::Drawn;
@@ -16,6 +15,7 @@ use crate::presumed::sources_in;
 use crate::sources::{Sources, all_stand_below};
 use crate::told::Told;
 use co_base::Memory;
+use gathered::{Gathered, filled, put};
 use picture_parts::Names;
 use report_reader::Line;
 use std::alloc::{AllocError, Global};

@@ -1,9 +1,10 @@
 //! The arrows: of elements, of cancellations, and from what brought a line about.
 
-use crate::lists::{Gathered, NOWHERE, Numbers, at};
+use crate::keyed::Numbers;
 use crate::looks::{Look, Shade};
 use crate::notes::{Fact, Note, Verb};
 use crate::told::Told;
+use gathered::{Gathered, NOWHERE, at};
 use std::alloc::{AllocError, Global};
 
 /// An arrow from one line to another, by their numbers among the lines of the books.

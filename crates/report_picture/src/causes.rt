@@ -1,8 +1,8 @@
 //! Which line stands below which other.
 
-use crate::lists::{Gathered, NOWHERE};
 use crate::notes::{Fact, How, Note, Verb};
 use crate::told::Told;
+use gathered::{Gathered, NOWHERE};
 use std::alloc::{AllocError, Global};
 
 /// That one line stands below another, by their numbers among the lines of the books.

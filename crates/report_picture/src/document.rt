@@ -94,8 +94,7 @@ fn way_text(alloc: Global, way: Way) -> Result<Vec<u8>, AllocError>
 fn title_of(alloc: Global, title: Title) -> Result<Vec<u8>, AllocError>
     ensures { IfOk result (λ text. text.items ≡ title_of title.entry) }
 {
-    let text = with_source(alloc, title.line, title.source)?;
-    Ok(text)
+    with_source(alloc, title.line, title.source)
 }
 
 fn push_place(alloc: Global, out: &mut Vec<u8>, x: u64, y: u64) -> Result<(), AllocError>
@@ -149,19 +148,19 @@ fn push_box(
 
 fn push_shown_path(
     out: &mut Vec<u8>,
-    data: &[u8],
+    way: &[u8],
     look: Look,
     shown: &[u8],
 ) -> Result<(), AllocError>
     ensures { OnOk result (out.new.items ≡ out.old.items ++ node_text (record {
       name = codes "path";
-      attributes = (codes "d", data.now) ∷ ((codes "class", look_word look) ∷ []);
+      attributes = (codes "d", way.now) ∷ ((codes "class", look_word look) ∷ []);
       title = shown.now;
       text = [];
     })) }
 {
     push_bytes(out, b"<path")?;
-    push_attribute(out, b"d", data)?;
+    push_attribute(out, b"d", way)?;
     push_attribute(out, b"class", look.word())?;
     push_rest(out, b"path", shown, b"")
 }
@@ -175,9 +174,9 @@ fn push_path(
 ) -> Result<(), AllocError>
     ensures { OnOk result (out.new.items ≡ out.old.items ++ node_text (path_node way look (title_of title.entry))) }
 {
-    let data = way_text(alloc, way)?;
+    let text = way_text(alloc, way)?;
     let shown = title_of(alloc, title)?;
-    push_shown_path(out, data.as_slice(), look, shown.as_slice())
+    push_shown_path(out, text.as_slice(), look, shown.as_slice())
 }
 
 fn push_text(

@@ -5,13 +5,13 @@ ghost use Rattle.report_reader.specs.Reading.{told, told_lines};
 ghost use Rattle.report_picture.specs.Pictures.{is_element};
 
 use crate::layout::{INDENT, label_of, text_width};
-use crate::lists::NOWHERE;
 use crate::looks::Look;
 use crate::marks::{Marks, shown};
 use crate::notes::Fact;
 use crate::picture::{Lost, Spot, Way};
 use crate::sheet::Sheet;
 use crate::told::first_of;
+use gathered::NOWHERE;
 use picture_parts::word;
 use report_reader::{Line, Said};
 use std::alloc::{AllocError, Global};

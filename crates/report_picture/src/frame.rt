@@ -2,12 +2,12 @@
 
 use crate::arrows::shade_of;
 use crate::layout::BAR;
-use crate::lists::{NOWHERE, at};
 use crate::lives::hangs;
 use crate::looks::{Look, State};
 use crate::marks::{Marks, shown, untitled};
 use crate::picture::Way;
 use crate::sheet::Sheet;
+use gathered::{NOWHERE, at};
 use report_reader::{Line, Said, cut_at};
 
 /// How wide an entry of the legend is, and how many there are in a row.

@@ -4,11 +4,11 @@
 
 use crate::arrows::Arrow;
 use crate::layout::{BAR, LEVEL, lane_x};
-use crate::lists::{Gathered, NOWHERE, at, filled, put};
 use crate::looks::Look;
 use crate::marks::Marks;
 use crate::picture::Way;
 use crate::sheet::Sheet;
+use gathered::{Gathered, NOWHERE, at, filled, put};
 use std::alloc::{AllocError, Global};
 use std::collections::BinaryHeap;
 

@@ -4,9 +4,9 @@ ghost use Rattle.std.specs.Prelude.{◌≡◌, ◌≤◌, ◌<◌, ◌+◌, ◌+
 ghost use Rattle.report_picture.specs.Elements.{label_of, rest_of, row_y};
 ghost use Rattle.report_picture.specs.Pictures.{StandBeside, last_text};
 
-use crate::lists::at;
 use crate::picture::Column;
 use co_base::Memory;
+use gathered::at;
 use report_reader::cut_at;
 use std::alloc::Global;
 

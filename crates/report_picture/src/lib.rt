@@ -42,7 +42,7 @@
 //!
 //! Below all of them:
 //!
-//! - `lists`: lists, read and written at a place, and gathered, and numbers for keys.
+//! - `keyed`: numbers for keys.
 #![tactic(auto)]
 
 mod arranged;
@@ -55,9 +55,9 @@ mod drawing;
 mod events;
 mod fates;
 mod frame;
+mod keyed;
 mod lanes;
 mod layout;
-mod lists;
 mod lives;
 mod looks;
 mod marks;

@@ -1,12 +1,13 @@
 //! The lives of the coroutines, and their waits.
 
+use crate::keyed::Numbers;
 use crate::layout::{BAR, HALF};
-use crate::lists::{Gathered, NOWHERE, Numbers, at, filled, put};
 use crate::looks::{Look, State};
 use crate::marks::Marks;
 use crate::notes::{Fact, Note, Verb};
 use crate::picture::Way;
 use crate::sheet::Sheet;
+use gathered::{Gathered, NOWHERE, at, filled, put};
 use std::alloc::{AllocError, Global};
 
 /// How high the end of a life is.

@@ -1,8 +1,8 @@
 //! Marks, added one by one.
 
-use crate::lists::Gathered;
 use crate::looks::Look;
 use crate::picture::{Mark, Title, Way};
+use gathered::Gathered;
 use std::alloc::{AllocError, Global};
 
 /// That of a mark of which nothing is shown.

@@ -1,7 +1,7 @@
 //! What the lines of the books say, as far as a picture shows it.
 
-use crate::lists::{Gathered, at};
 use crate::looks::State;
+use gathered::{Gathered, at};
 use report_reader::{Line, Said, value_of, words_of};
 use std::alloc::{AllocError, Global};
 

@@ -1,7 +1,7 @@
 //! An order of the lines of the books.
 
 use crate::causes::Cause;
-use crate::lists::{Gathered, NOWHERE, at, filled, put};
+use gathered::{Gathered, NOWHERE, at, filled, put};
 use std::alloc::{AllocError, Global};
 
 /// That of no lines.

@@ -7,9 +7,9 @@ ghost use Rattle.report_picture.specs.Order.{StandFrom};
 ghost use Rattle.report_picture.specs.Pictures.{EndsAbove, StandInColumns, StandInOrder, is_drawn, is_left_out, is_of, is_target, is_within, lines_in};
 
 use crate::columns::Wanted;
-use crate::lists::at;
 use crate::picture::Drawn;
 use co_base::Memory;
+use gathered::at;
 use picture_parts::{Names, column_of, is_among, is_bookkeeping, row_behind};
 use report_reader::{Line, Said};
 use std::alloc::{AllocError, Global};

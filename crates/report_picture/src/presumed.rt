@@ -1,10 +1,11 @@
 //! Where the lines stand that the lines of a picture presuppose.
 
 use crate::arranged::Books;
-use crate::lists::{Gathered, NOWHERE, Numbers, at};
+use crate::keyed::Numbers;
 use crate::notes::{Fact, Note, Verb};
 use crate::sources::{Place, Sources};
 use crate::told::Told;
+use gathered::{Gathered, NOWHERE, at};
 use std::alloc::{AllocError, Global};
 
 /// The place of no line.

@@ -2,8 +2,8 @@
 
 use crate::arranged::Books;
 use crate::layout::{HALF, row_y};
-use crate::lists::{NOWHERE, at};
 use crate::picture::{Column, Title};
+use gathered::{NOWHERE, at};
 use picture_parts::column_of;
 use report_reader::Said;
 

@@ -1,8 +1,8 @@
 //! Whom a line of a book concerns.
 
-use crate::lists::{Gathered, NOWHERE};
 use crate::notes::{Fact, Note, Verb};
 use crate::told::Told;
+use gathered::{Gathered, NOWHERE};
 use std::alloc::{AllocError, Global};
 
 /// The coroutine in whose book a line stands; the own one, if there is no such line.

@@ -1,7 +1,8 @@
 //! What the lines of the books say, and which of them says what of a place, a wait, a channel and a row.
 
-use crate::lists::{NOWHERE, Numbers, at};
+use crate::keyed::Numbers;
 use crate::notes::{Fact, NO_NOTE, Note, notes_in};
+use gathered::{NOWHERE, at};
 use report_reader::Line;
 use std::alloc::{AllocError, Global};
 
