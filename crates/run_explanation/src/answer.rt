@@ -1,9 +1,9 @@
 //! What a report of a script comes to, in words.
 
-ghost use Rattle.std.specs.Prelude.{◌≡◌, ◌≤◌, ◌++◌, IfOk, OnOk, length};
+ghost use Rattle.std.specs.Prelude.{◌≡◌, ◌≤◌, ◌++◌, IfOk, OnOk, length, map};
 ghost use Rattle.script_reader.specs.Scripts.{program_of};
 ghost use Rattle.report_reader.specs.Reading.{told_lines};
-ghost use Rattle.run_explanation.specs.Answers.{Blames, Explains, Gives, GivesFor, TellsWaits, WaitsOf, calm_text, headed, left_open, texts_from};
+ghost use Rattle.run_explanation.specs.Answers.{Blames, Explains, Gives, GivesFor, TellsWaits, WaitsOf, calm_text, headed, left_open, texts_from, waits_text};
 ghost use Rattle.run_explanation.specs.Fitting.{lines_for};
 ghost use Rattle.run_explanation.specs.Waiting.{waiting};
 
@@ -43,8 +43,7 @@ fn push_class<'a>(
         ≡ headed entries.old.items ++ texts_from (program_of script.now) waits.now class (told_lines lines.now)) }
 {
     let found = texts_of(alloc, script, waits, class, lines)?;
-    push_lines(alloc, entries, story, found.as_slice())?;
-    Ok(())
+    push_lines(alloc, entries, story, found.as_slice())
 }
 
 /// The entries of what did not come to its end.
@@ -150,9 +149,20 @@ fn told(
     ensures { IfOk result (λ text. Explains (program_of script.now) (told_lines lines.now) text.items) }
 {
     let story = story_of(alloc, script, source, lines)?;
+    told_by(alloc, script, &story, lines)
+}
+
+/// The same by what is known of the run.
+fn told_by<'a>(
+    alloc: Global,
+    script: &Script,
+    story: &Story<'a>,
+    lines: &[Line<'a>],
+) -> Result<Vec<u8>, AllocError>
+    ensures { IfOk result (λ text. Explains (program_of script.now) (told_lines lines.now) text.items) }
+{
     let waits = waiting(alloc, lines)?;
-    let text = explained(alloc, script, &story, waits.as_slice(), lines)?;
-    Ok(text)
+    explained(alloc, script, story, waits.as_slice(), lines)
 }
 
 /// What a fault of the script is told as.
@@ -205,10 +215,23 @@ fn told_waits(
     ensures { IfOk result (λ text. TellsWaits (program_of script.now) (told_lines lines.now) text.items) }
 {
     let story = story_of(alloc, script, source, lines)?;
-    let waits = waiting(alloc, lines)?;
-    let mut entries = Vec::new(alloc);
-    push_waits(alloc, &mut entries, script, &story, waits.as_slice())?;
+    let entries = waits_in(alloc, script, &story, lines)?;
     let mut text = Vec::new(alloc);
     push_wait_lines(&mut text, entries.as_slice())?;
     Ok(text)
+}
+
+/// The entries of the coroutines that wait.
+fn waits_in<'a>(
+    alloc: Global,
+    script: &Script,
+    story: &Story<'a>,
+    lines: &[Line<'a>],
+) -> Result<Vec<Entry>, AllocError>
+    ensures { IfOk result (λ entries. headed entries.items ≡ map (waits_text (program_of script.now)) (waiting (told_lines lines.now))) }
+{
+    let waits = waiting(alloc, lines)?;
+    let mut entries = Vec::new(alloc);
+    push_waits(alloc, &mut entries, script, story, waits.as_slice())?;
+    Ok(entries)
 }

@@ -2,6 +2,7 @@
 
 ghost use Rattle.std.specs.Prelude.{◌≡◌, ◌++◌, ◌∷◌, [], IfOk, OnOk, map, slice_get};
 ghost use Rattle.std.specs.List.{flat_map};
+ghost use lib.Chars.{codes};
 ghost use Rattle.script_reader.specs.Programs.{block_of};
 ghost use Rattle.script_reader.specs.Scripts.{program_of};
 ghost use Rattle.report_reader.specs.Words.{texts};
@@ -44,10 +45,9 @@ pub(crate) fn name_of_tag(script: &Script, tag: u32) -> &str
 fn waits_text(alloc: Global, script: &Script, tag: u32) -> Result<Vec<u8>, AllocError>
     ensures { IfOk result (λ text. text.items ≡ waits_text (program_of script.now) tag) }
 {
-    let mut out = Vec::from_slice(alloc, name_of_tag(script, tag).as_bytes())?;
-    let number = format!(in alloc; " {tag} waits")?;
-    out.extend_from_slice(number.as_bytes())?;
-    Ok(out)
+    let name = name_of_tag(script, tag);
+    let text = format!(in alloc; "{name} {tag} waits")?;
+    Ok(text.into_bytes())
 }
 
 /// Adds an entry.
@@ -121,11 +121,12 @@ fn push_plain(out: &mut Vec<u8>, hint: &[u8]) -> Result<(), AllocError>
     Ok(())
 }
 
-fn push_hint(out: &mut Vec<u8>, hint: &String) -> Result<(), AllocError>
-    ensures { OnOk result (out.new.items ≡ out.old.items ++ hint_line hint.now) }
+/// Adds what stands before a hint, the hint, and a line feed.
+fn push_line(out: &mut Vec<u8>, before: &[u8], hint: &[u8]) -> Result<(), AllocError>
+    ensures { OnOk result (out.new.items ≡ out.old.items ++ (before.now ++ (plain hint.now ++ codes "\n"))) }
 {
-    out.extend_from_slice(b"  ")?;
-    push_plain(out, hint.as_bytes())?;
+    out.extend_from_slice(before)?;
+    push_plain(out, hint)?;
     out.extend_from_slice(b"\n")?;
     Ok(())
 }
@@ -135,7 +136,7 @@ fn push_hints(out: &mut Vec<u8>, hints: &[String]) -> Result<(), AllocError>
 {
     let mut rest = hints;
     while let [hint, more @ ..] = rest {
-        push_hint(out, hint)?;
+        push_line(out, b"  ", hint.as_bytes())?;
         rest = more;
     }
     Ok(())
@@ -144,11 +145,8 @@ fn push_hints(out: &mut Vec<u8>, hints: &[String]) -> Result<(), AllocError>
 fn push_text(out: &mut Vec<u8>, entry: &Entry) -> Result<(), AllocError>
     ensures { OnOk result (out.new.items ≡ out.old.items ++ entry_text entry.now) }
 {
-    out.extend_from_slice(entry.heading.as_slice())?;
-    push_plain(out, entry.hint.as_bytes())?;
-    out.extend_from_slice(b"\n")?;
-    push_hints(out, entry.more.as_slice())?;
-    Ok(())
+    push_line(out, entry.heading.as_slice(), entry.hint.as_bytes())?;
+    push_hints(out, entry.more.as_slice())
 }
 
 /// Adds the text of entries.
@@ -168,10 +166,7 @@ fn push_wait_line(out: &mut Vec<u8>, entry: &Entry) -> Result<(), AllocError>
     ensures { OnOk result (out.new.items ≡ out.old.items ++ wait_line entry.now) }
 {
     out.extend_from_slice(b"  ")?;
-    out.extend_from_slice(entry.heading.as_slice())?;
-    push_plain(out, entry.hint.as_bytes())?;
-    out.extend_from_slice(b"\n")?;
-    Ok(())
+    push_line(out, entry.heading.as_slice(), entry.hint.as_bytes())
 }
 
 /// Adds entries, each on one line.

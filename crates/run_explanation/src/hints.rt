@@ -1,12 +1,13 @@
 //! What an entry says behind its heading, of which nothing is promised.
 
 use crate::entries::name_of_tag;
-use crate::marks::word_at;
-use crate::notes::Note;
-use crate::partners::{Awaited, awaited_by, circle_of, partners_of};
+use crate::notes::{Note, is_in, words_in};
+use crate::partners::{Awaited, awaited_by, find_circle, find_partners};
 use crate::source::SourceLine;
 use crate::story::Story;
-use report_reader::{value_of, words_of};
+use crate::verbs::{AWAIT, CANCEL, DRAIN, DROP, FAIL, HAND, OFFER, PUT, SPENT, SPURN};
+use gathered::{Gathered, NOWHERE};
+use report_reader::value_of;
 use script_reader::Script;
 use std::alloc::{AllocError, Global};
 
@@ -19,299 +20,329 @@ pub(crate) struct Hint {
 
 // ---- parts of texts
 
-/// Adds a text that came out of the input.
-fn push_bytes(out: &mut String, bytes: &[u8]) -> Result<(), AllocError> {
-    if let Ok(text) = str::from_utf8(bytes) {
-        out.push_str(text)?;
-    }
-    Ok(())
+/// A hint that grows, and whether memory ran out as it did: what is said is heard of at its end alone.
+#[derive(Drop)]
+struct Saying {
+    alloc: Global,
+    hint: String,
+    more: Vec<String>,
+    full: bool,
 }
 
-/// Adds a coroutine, as `worker 3`; or a Job that is a scope's, as `job 7`.
-fn push_row(out: &mut String, script: &Script, row: u32) -> Result<(), AllocError> {
-    if row < u32::from(script.coroutines()) {
-        let name = name_of_tag(script, row);
-        write!(out, "{name} {row}")
-    } else {
-        write!(out, "job {row}")
-    }
-}
-
-/// Adds these rows, with commas between them; or `nobody`.
-fn push_rows(out: &mut String, script: &Script, rows: &[u32]) -> Result<(), AllocError> {
-    if rows.is_empty() {
-        out.push_str("nobody")?;
-        return Ok(());
-    }
-    for (i, row) in rows.iter().enumerate() {
-        if i > 0 {
-            out.push_str(", ")?;
+impl Saying {
+    fn new(alloc: Global) -> Saying {
+        Saying {
+            alloc,
+            hint: String::new(alloc),
+            more: Vec::new(alloc),
+            full: false,
         }
-        push_row(out, script, *row)?;
     }
-    Ok(())
-}
 
-/// Adds a line of the script, as ` at line 5: receive a`.
-fn push_source(out: &mut String, line: SourceLine<'_>) -> Result<(), AllocError> {
-    let number = line.number;
-    write!(out, " at line {number}: ")?;
-    push_bytes(out, line.text)
-}
-
-/// Adds the line of the script at which a note was made, if that is known.
-fn push_made_at(out: &mut String, story: &Story<'_>, number: usize) -> Result<(), AllocError> {
-    match story.source_of(number) {
-        Some(line) => push_source(out, line),
-        None => Ok(()),
+    /// Begins a line below the heading.
+    fn line(&mut self) {
+        if self.more.push(String::new(self.alloc)).is_err() {
+            self.full = true;
+        }
     }
-}
 
-/// Adds who made a note, and at which line.
-fn push_maker(out: &mut String, story: &Story<'_>, number: usize) -> Result<(), AllocError> {
-    if let Some(note) = story.notes.get(number) {
-        push_row(out, story.script, note.tag)?;
-        push_made_at(out, story, number)?;
+    /// The line that is said.
+    fn here(&mut self) -> &mut String {
+        match self.more.last_mut() {
+            Some(line) => line,
+            None => &mut self.hint,
+        }
     }
-    Ok(())
+
+    fn say(&mut self, text: &str) {
+        if self.here().push_str(text).is_err() {
+            self.full = true;
+        }
+    }
+
+    fn number(&mut self, number: u32) {
+        if write!(self.here(), "{number}").is_err() {
+            self.full = true;
+        }
+    }
+
+    /// Says a text that came out of the input.
+    fn bytes(&mut self, bytes: &[u8]) {
+        if let Ok(text) = str::from_utf8(bytes) {
+            self.say(text);
+        }
+    }
+
+    /// Says a coroutine, as `worker 3`; or a Job that is a scope's, as `job 7`.
+    fn row(&mut self, script: &Script, row: u32) {
+        let name = if row < u32::from(script.coroutines()) {
+            name_of_tag(script, row)
+        } else {
+            "job"
+        };
+        self.say(name);
+        self.say(" ");
+        self.number(row);
+    }
+
+    /// Says these rows, with commas between them; or `nobody`.
+    fn rows(&mut self, script: &Script, rows: &[u32]) {
+        if rows.is_empty() {
+            self.say("nobody");
+        }
+        let mut between = "";
+        for row in rows {
+            self.say(between);
+            self.row(script, *row);
+            between = ", ";
+        }
+    }
+
+    /// Says these rows; memory may have run out as they were gathered.
+    fn gathered(&mut self, script: &Script, rows: &Gathered<u32>) {
+        self.rows(script, rows.as_slice());
+        self.full = self.full || rows.full;
+    }
+
+    /// Says a line of the script, as ` at line 5: receive a`, if it is known.
+    fn source(&mut self, line: SourceLine<'_>) {
+        if line.is_known() {
+            self.say(" at line ");
+            self.number(line.number);
+            self.say(": ");
+            self.bytes(line.text);
+        }
+    }
+
+    /// Says who made a note, and at which line.
+    fn maker<'a>(&mut self, story: &Story<'a>, note: &Note<'a>) {
+        self.row(story.script, note.tag);
+        self.source(story.source_of(note));
+    }
+
+    /// The hint, if memory held all that was said.
+    fn whole(self) -> Result<Hint, AllocError> {
+        let Saying {
+            hint,
+            more,
+            full,
+            ..
+        } = self;
+        if full {
+            Err(AllocError)
+        } else {
+            Ok(Hint { hint, more })
+        }
+    }
 }
 
 // ---- a coroutine that waits
 
 /// What it says of a wait whose line is not known.
-fn push_wait(out: &mut String, story: &Story<'_>, note: &Note<'_>) -> Result<(), AllocError> {
-    match awaited_by(story, note) {
-        Awaited::Element(_) => out.push_str(" to receive from ")?,
-        Awaited::Receiver(_) => out.push_str(" to send on ")?,
-        Awaited::End(row) => {
-            out.push_str(" for the end of ")?;
-            return push_row(out, story.script, row);
-        }
-        Awaited::Unknown => out.push_str(" on ")?,
+fn say_wait(out: &mut Saying, story: &Story<'_>, note: &Note<'_>) {
+    let awaited = awaited_by(story, note);
+    out.say(match awaited {
+        Awaited::Element(_) => " to receive from ",
+        Awaited::Receiver(_) => " to send on ",
+        Awaited::End(_) => " for the end of ",
+        Awaited::Unknown => " on ",
+    });
+    match awaited {
+        Awaited::End(row) => out.row(story.script, row),
+        _ => out.bytes(note.word(2)),
     }
-    push_bytes(out, note.word(2))
 }
 
-/// Adds what the wait is for, where the line does not say it.
-fn push_job(
-    alloc: Global,
-    more: &mut Vec<String>,
-    story: &Story<'_>,
-    number: usize,
-) -> Result<(), AllocError> {
-    if let Some(note) = story.notes.get(number)
-        && let Some(row) = note.done_row()
-    {
-        let mut out = String::new(alloc);
-        out.push_str("for the end of ")?;
-        push_row(&mut out, story.script, row)?;
-        if let Some(line) = story.scope_line(number) {
-            let head = line.number;
-            write!(out, ", of the scope of line {head}")?;
+/// Says what the wait is for, where the line does not say it.
+fn say_job<'a>(out: &mut Saying, story: &Story<'a>, note: &Note<'a>) {
+    if let Some(row) = note.done_row() {
+        out.line();
+        out.say("for the end of ");
+        out.row(story.script, row);
+        let line = story.scope_line(note);
+        if line.is_known() {
+            out.say(", of the scope of line ");
+            out.number(line.number);
         }
-        more.push(out)?;
     }
-    Ok(())
 }
 
-/// Adds a circle of waits, at the first of those that are in it.
-fn push_circle(
-    alloc: Global,
-    more: &mut Vec<String>,
-    story: &Story<'_>,
-    tag: u32,
-) -> Result<(), AllocError> {
-    let circle = circle_of(alloc, story, tag)?;
-    if circle.is_empty() || circle.iter().any(|other| *other < tag) {
-        return Ok(());
+/// Says who could end the wait of a coroutine.
+fn say_partners(out: &mut Saying, story: &Story<'_>, tag: u32) {
+    let mut partners = Gathered::new(out.alloc);
+    find_partners(out.alloc, &mut partners, story, tag);
+    out.line();
+    out.say("could be ended by: ");
+    out.gathered(story.script, &partners);
+}
+
+/// Says a circle of waits, at the first of those that are in it.
+fn say_circle(out: &mut Saying, story: &Story<'_>, tag: u32) {
+    let mut circle = Gathered::new(out.alloc);
+    if find_circle(out.alloc, &mut circle, story, tag) {
+        out.line();
+        out.say("circle of waits: ");
+        out.rows(story.script, circle.as_slice());
+        out.say(", ");
+        out.row(story.script, tag);
     }
-    let mut out = String::new(alloc);
-    out.push_str("circle of waits: ")?;
-    for row in circle.as_slice() {
-        push_row(&mut out, story.script, *row)?;
-        out.push_str(", ")?;
-    }
-    push_row(&mut out, story.script, tag)?;
-    more.push(out)?;
-    Ok(())
+    out.full = out.full || circle.full;
 }
 
 /// The line at which a coroutine waits, who could end that, and a circle of waits.
 pub(crate) fn wait_hint(alloc: Global, story: &Story<'_>, tag: u32) -> Result<Hint, AllocError> {
-    let mut hint = String::new(alloc);
-    let mut more = Vec::new(alloc);
-    let Some(number) = story.wait_of(tag) else {
-        return Ok(Hint { hint, more });
-    };
-    if let Some(note) = story.notes.get(number) {
-        match story.wait_line(number) {
-            Some(line) => {
-                push_source(&mut hint, line)?;
-                push_job(alloc, &mut more, story, number)?;
-            }
-            None => push_wait(&mut hint, story, note)?,
+    let mut out = Saying::new(alloc);
+    if let Some(note) = story.note(story.row(tag).wait) {
+        let line = story.wait_line(note);
+        if line.is_known() {
+            out.source(line);
+            say_job(&mut out, story, note);
+        } else {
+            say_wait(&mut out, story, note);
         }
+        say_partners(&mut out, story, tag);
+        say_circle(&mut out, story, tag);
     }
-    let mut out = String::new(alloc);
-    out.push_str("could be ended by: ")?;
-    let partners = partners_of(alloc, story, tag)?;
-    push_rows(&mut out, story.script, partners.as_slice())?;
-    more.push(out)?;
-    push_circle(alloc, &mut more, story, tag)?;
-    Ok(Hint { hint, more })
+    out.whole()
 }
 
 // ---- an element
 
 /// The number of the note that has one of these verbs, on this channel and place.
-fn note_at(story: &Story<'_>, verbs: &[u8], channel: &[u8], place: &[u8]) -> Option<usize> {
-    for (number, note) in story.notes.iter().enumerate() {
+fn note_at(story: &Story<'_>, verbs: u32, channel: &[u8], place: &[u8]) -> usize {
+    for (number, note) in story.notes().iter().enumerate() {
         if note.is_one_of(verbs) && note.word(2) == channel && note.word(3) == place {
-            return Some(number);
+            return number;
         }
     }
-    None
+    NOWHERE
 }
 
-/// Who sent an element, to whom it was handed, and who discarded it.
-fn element_hint(
-    alloc: Global,
-    story: &Story<'_>,
-    channel: &[u8],
-    place: &[u8],
-) -> Result<Hint, AllocError> {
-    let mut hint = String::new(alloc);
-    let mut more = Vec::new(alloc);
-    if let Some(number) = note_at(story, b"hand put offer", channel, place) {
-        hint.push_str(": sent by ")?;
-        push_maker(&mut hint, story, number)?;
+/// Says below the heading who made the note of this number, if there is one.
+fn say_maker(out: &mut Saying, story: &Story<'_>, verb: &str, number: usize) {
+    if let Some(note) = story.note(number) {
+        out.line();
+        out.say(verb);
+        out.maker(story, note);
     }
-    if let Some(number) = note_at(story, b"await", channel, place) {
-        let mut out = String::new(alloc);
-        out.push_str("handed to ")?;
-        push_maker(&mut out, story, number)?;
-        more.push(out)?;
+}
+
+/// Says who sent an element, to whom it was handed, and who discarded it.
+fn say_element(out: &mut Saying, story: &Story<'_>, channel: &[u8], place: &[u8]) {
+    let sent = note_at(story, HAND | PUT | OFFER, channel, place);
+    let handed = note_at(story, AWAIT, channel, place);
+    let discarded = note_at(story, DROP | SPURN | DRAIN, channel, place);
+    if let Some(note) = story.note(sent) {
+        out.say(": sent by ");
+        out.maker(story, note);
     }
-    if let Some(number) = note_at(story, b"drop spurn drain", channel, place) {
-        let mut out = String::new(alloc);
-        out.push_str("discarded by ")?;
-        push_maker(&mut out, story, number)?;
-        more.push(out)?;
-    }
-    Ok(Hint { hint, more })
+    say_maker(out, story, "handed to ", handed);
+    say_maker(out, story, "discarded by ", discarded);
 }
 
 // ---- a Job
 
-/// The Jobs below a row that have not ended.
-fn below(alloc: Global, story: &Story<'_>, row: u32) -> Result<Vec<u32>, AllocError> {
-    let mut found = Vec::new(alloc);
-    for other in 0..story.script.jobs() {
-        let other = u32::from(other);
-        if story.is_there(other) && !story.has_ended(other) && story.parent(other) == Some(row) {
-            found.push(other)?;
+/// Says the Jobs below a row that have not ended.
+fn say_below(out: &mut Saying, story: &Story<'_>, row: u32) {
+    let mut found = Gathered::new(out.alloc);
+    for other in 0..u32::from(story.script.jobs()) {
+        if story.is_open_below(other, row) {
+            found.add(other);
         }
     }
-    Ok(found)
+    out.gathered(story.script, &found);
 }
 
-/// Why the Job of a coroutine that does not wait has not ended.
-fn job_hint(alloc: Global, story: &Story<'_>, row: u32, state: &[u8]) -> Result<Hint, AllocError> {
-    let mut hint = String::new(alloc);
-    hint.push_str(": ")?;
-    push_row(&mut hint, story.script, row)?;
+/// Says why the Job of a coroutine that does not wait has not ended.
+fn say_job_open(out: &mut Saying, story: &Story<'_>, row: u32, state: &[u8]) {
+    out.say(": ");
+    out.row(story.script, row);
     if state == b"new".as_slice() {
-        hint.push_str(" was not started")?;
+        out.say(" was not started");
     } else {
-        let children = below(alloc, story, row)?;
-        hint.push_str(" has ended its lines, and waits for the end of ")?;
-        push_rows(&mut hint, story.script, children.as_slice())?;
+        out.say(" has ended its lines, and waits for the end of ");
+        say_below(out, story, row);
     }
-    Ok(Hint {
-        hint,
-        more: Vec::new(alloc),
-    })
 }
 
 /// The number of the first note by which the body of a coroutine failed.
-fn failure_of(story: &Story<'_>, tag: u32) -> Option<usize> {
-    let (first, end) = story.book(tag);
-    for number in first..end {
-        if let Some(note) = story.notes.get(number)
-            && note.is_one_of(b"fail spent")
+fn failure_of(story: &Story<'_>, tag: u32) -> usize {
+    let known = story.row(tag);
+    for number in known.first..known.end {
+        if let Some(note) = story.note(number)
+            && note.is_one_of(FAIL | SPENT)
         {
-            return Some(number);
+            return number;
         }
     }
-    None
+    NOWHERE
 }
 
-/// The rows that a coroutine cancelled by failures, in its order, but for this one.
-fn cancelled_by(alloc: Global, story: &Story<'_>, tag: u32) -> Result<Vec<u32>, AllocError> {
-    let mut rows = Vec::new(alloc);
-    let (first, end) = story.book(tag);
+/// Adds the rows that a coroutine cancelled by failures, in its order, but for this one.
+fn find_cancelled(rows: &mut Gathered<u32>, story: &Story<'_>, tag: u32) {
+    let known = story.row(tag);
     let mut fails = false;
-    for number in first..end {
-        if let Some(note) = story.notes.get(number)
-            && note.is_one_of(b"cancel")
-            && let Some(row) = note.number(2)
+    for number in known.first..known.end {
+        if let Some(note) = story.note(number)
+            && note.is_one_of(CANCEL)
         {
-            fails = note.word(3) == b"own".as_slice()
-                || note.word(3) == b"child".as_slice()
-                || (fails && note.word(3) == b"parent".as_slice());
-            if fails && row != tag {
-                rows.push(row)?;
+            fails = is_by_failure(note.word(3), fails);
+            if let Some(row) = note.number(2)
+                && fails
+                && row != tag
+            {
+                rows.add(row);
             }
         }
     }
-    Ok(rows)
 }
 
-/// By what a Job failed, and whom that cancelled.
-fn failure_hint(
-    alloc: Global,
-    story: &Story<'_>,
-    row: u32,
-    cause: u32,
-) -> Result<Hint, AllocError> {
-    let mut hint = String::new(alloc);
-    let mut more = Vec::new(alloc);
-    hint.push_str(": ")?;
+/// Whether a Job is cancelled by a failure if this is the cause, and the one before it was or was not.
+fn is_by_failure(cause: &[u8], before: bool) -> bool {
+    is_in(cause, b"own child") || (before && cause == b"parent".as_slice())
+}
+
+/// Says whom the failure of a coroutine cancelled.
+fn say_cancelled(out: &mut Saying, story: &Story<'_>, tag: u32) {
+    let mut rows = Gathered::new(out.alloc);
+    find_cancelled(&mut rows, story, tag);
+    out.line();
+    out.say("it cancelled: ");
+    out.gathered(story.script, &rows);
+}
+
+/// Says by what a Job failed, and whom that cancelled.
+fn say_failure(out: &mut Saying, story: &Story<'_>, row: u32, cause: u32) {
+    out.say(": ");
+    out.row(story.script, row);
     if row == cause {
-        push_row(&mut hint, story.script, row)?;
-        hint.push_str(" failed")?;
-        if let Some(number) = failure_of(story, row) {
-            push_made_at(&mut hint, story, number)?;
+        out.say(" failed");
+        if let Some(note) = story.note(failure_of(story, row)) {
+            out.source(story.source_of(note));
         }
-        let rows = cancelled_by(alloc, story, row)?;
-        let mut out = String::new(alloc);
-        out.push_str("it cancelled: ")?;
-        push_rows(&mut out, story.script, rows.as_slice())?;
-        more.push(out)?;
+        say_cancelled(out, story, row);
     } else {
-        push_row(&mut hint, story.script, row)?;
-        hint.push_str(" failed by the failure of ")?;
-        push_row(&mut hint, story.script, cause)?;
+        out.say(" failed by the failure of ");
+        out.row(story.script, cause);
     }
-    Ok(Hint { hint, more })
+}
+
+/// Says what is to be said of the line of a Job or of an element.
+fn say_line(out: &mut Saying, story: &Story<'_>, line: &[u8]) {
+    let words = words_in(line);
+    if words[0] == b"element".as_slice() {
+        say_element(out, story, words[1], words[2]);
+    } else if let Some(row) = value_of(words[1]) {
+        match value_of(words[3]) {
+            Some(cause) => say_failure(out, story, row, cause),
+            None => say_job_open(out, story, row, words[2]),
+        }
+    }
 }
 
 /// What is to be said of the line of a Job or of an element.
 pub(crate) fn line_hint(alloc: Global, story: &Story<'_>, line: &[u8]) -> Result<Hint, AllocError> {
-    let mut words = Vec::new(alloc);
-    words_of(&mut words, line)?;
-    let words = words.as_slice();
-    if word_at(words, 0) == b"element".as_slice() {
-        return element_hint(alloc, story, word_at(words, 1), word_at(words, 2));
-    }
-    let Some(row) = value_of(word_at(words, 1)) else {
-        return Ok(Hint {
-            hint: String::new(alloc),
-            more: Vec::new(alloc),
-        });
-    };
-    match value_of(word_at(words, 3)) {
-        Some(cause) => failure_hint(alloc, story, row, cause),
-        None => job_hint(alloc, story, row, word_at(words, 2)),
-    }
+    let mut out = Saying::new(alloc);
+    say_line(&mut out, story, line);
+    out.whole()
 }

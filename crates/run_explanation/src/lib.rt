@@ -4,7 +4,7 @@
 //! - `fits`: which lines can be those of a report of the script.
 //! - `marks`, `waiting`: which coroutines are left waiting.
 //! - `classes`: Jobs that failed or have not ended, and elements that were not received.
-//! - `notes`, `source`, `walk`, `story`, `partners`, `hints`: what an entry says behind its heading, of which nothing is promised.
+//! - `verbs`, `notes`, `source`, `walk`, `story`, `partners`, `hints`: what an entry says behind its heading, of which nothing is promised.
 //! - `entries`: the entries of an explanation, and its text.
 //! - `answer`: the explanation of an input.
 //! - `naming`: names of coroutines, and lines of the script, beside the lines of a report.
@@ -22,6 +22,7 @@ mod partners;
 mod parts;
 mod source;
 mod story;
+mod verbs;
 mod waiting;
 mod walk;
 

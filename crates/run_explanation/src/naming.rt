@@ -57,24 +57,33 @@ fn names_of(alloc: Global, script: &Script) -> Result<Vec<Vec<u8>>, AllocError>
 }
 
 /// A line of the script with its number; nothing where none is known.
-fn text_of(alloc: Global, line: Option<SourceLine<'_>>) -> Result<Vec<u8>, AllocError> {
-    let Some(line) = line else {
+fn text_of(alloc: Global, line: SourceLine<'_>) -> Result<Vec<u8>, AllocError> {
+    if !line.is_known() {
         return Ok(Vec::new(alloc));
-    };
+    }
     let number = line.number;
     let head = format!(in alloc; "line {number}: ")?;
-    let mut text = head.into_bytes();
-    text.extend_from_slice(line.text)?;
-    Ok(text)
+    [head.as_bytes(), line.text].concat(alloc)
 }
 
 /// The lines of the script that the lines of the books were made at.
-fn sources_of(alloc: Global, story: &Story<'_>) -> Result<Vec<Vec<u8>>, AllocError> {
+fn sources_in(alloc: Global, story: &Story<'_>) -> Result<Vec<Vec<u8>>, AllocError> {
     let mut sources = Vec::new(alloc);
-    for (number, _) in story.notes.iter().enumerate() {
-        sources.push(text_of(alloc, story.source_of(number))?)?;
+    for note in story.notes() {
+        sources.push(text_of(alloc, story.source_of(note))?)?;
     }
     Ok(sources)
+}
+
+/// The same of these lines of a report of a script with this text.
+fn sources_of(
+    alloc: Global,
+    script: &Script,
+    source: &[u8],
+    lines: &[Line],
+) -> Result<Vec<Vec<u8>>, AllocError> {
+    let story = story_of(alloc, script, source, lines)?;
+    sources_in(alloc, &story)
 }
 
 /// These lines of a report, beside what a script with this text says.
@@ -87,8 +96,7 @@ fn with_names<'a>(
     ensures lines { IfOk result (λ named. named.lines ≡ lines.entry) }
     ensures names { IfOk result (λ named. map (λ n. n.items) named.names.items ≡ names_of (program_of script.now)) }
 {
-    let story = story_of(alloc, script, source, lines.as_slice())?;
-    let sources = sources_of(alloc, &story)?;
+    let sources = sources_of(alloc, script, source, lines.as_slice())?;
     let names = names_of(alloc, script)?;
     Ok(Named {
         lines,

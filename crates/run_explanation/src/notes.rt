@@ -1,32 +1,62 @@
-//! The lines of the books, and what is said of Jobs, taken apart for hints.
+//! The lines of the books, taken apart for hints.
 
-use crate::marks::word_at;
-use report_reader::{Line, Said, value_of, words_of};
-use std::alloc::{AllocError, Global};
+use crate::verbs::{AWAIT, OFFER, verb_of};
+use gathered::NOWHERE;
+use report_reader::{cut_at, value_of};
+
+/// So many words of a line are looked at.
+const WORDS: usize = 8;
 
 /// The line of a book.
-#[derive(Drop)]
+#[derive(Clone, Copy)]
 pub(crate) struct Note<'a> {
     pub(crate) tag: u32,
-    pub(crate) words: Vec<&'a [u8]>,
+    verb: u32,
+    words: [&'a [u8]; WORDS],
+    /// The line of its coroutine that it was made at, if that is known.
+    pub(crate) made_at: usize,
+}
+
+/// The first words of a line; empty where there is none.
+pub(crate) fn words_in<'a>(line: &'a [u8]) -> [&'a [u8]; WORDS] {
+    let none: &'a [u8] = b"";
+    let mut words = [none; WORDS];
+    let mut rest = line;
+    for i in 0..WORDS {
+        let (word, more) = cut_at(b' ', rest);
+        words[i] = word;
+        match more {
+            Some(next) => rest = next,
+            None => break,
+        }
+    }
+    words
+}
+
+/// The line of the book of a coroutine.
+pub(crate) fn note_of<'a>(tag: u32, line: &'a [u8]) -> Note<'a> {
+    let words = words_in(line);
+    Note {
+        tag,
+        verb: verb_of(words[1]),
+        words,
+        made_at: NOWHERE,
+    }
 }
 
 impl<'a> Note<'a> {
+    /// The word of this number, counted from 0; empty where there is none.
     pub(crate) fn word(&self, i: usize) -> &'a [u8] {
-        word_at(self.words.as_slice(), i)
+        if i < WORDS { self.words[i] } else { b"" }
     }
 
     pub(crate) fn number(&self, i: usize) -> Option<u32> {
         value_of(self.word(i))
     }
 
-    pub(crate) fn verb(&self) -> &'a [u8] {
-        self.word(1)
-    }
-
-    /// Whether the verb is one of these, which are parted by blanks.
-    pub(crate) fn is_one_of(&self, verbs: &[u8]) -> bool {
-        is_in(self.verb(), verbs)
+    /// Whether the verb is one of these.
+    pub(crate) fn is_one_of(&self, verbs: u32) -> bool {
+        self.verb & verbs != 0
     }
 
     /// The row, if it is on the done channel of a Job.
@@ -37,15 +67,20 @@ impl<'a> Note<'a> {
         }
     }
 
-    /// The wait that it begins.
-    pub(crate) fn begun(&self) -> Option<&'a [u8]> {
-        if self.is_one_of(b"await") {
-            Some(self.word(4))
-        } else if self.is_one_of(b"offer") {
-            Some(self.word(5))
-        } else {
-            None
-        }
+    /// Whether it is on the done channel of a Job.
+    pub(crate) fn is_done(&self) -> bool {
+        self.done_row().is_some()
+    }
+
+    /// Whether it begins a wait.
+    pub(crate) fn begins(&self) -> bool {
+        self.is_one_of(AWAIT | OFFER)
+    }
+
+    /// The wait that it begins, if it begins one.
+    pub(crate) fn wait(&self) -> &'a [u8] {
+        let place = if self.is_one_of(AWAIT) { 4 } else { 5 };
+        self.word(place)
     }
 }
 
@@ -73,37 +108,4 @@ pub(crate) fn is_in(word: &[u8], words: &[u8]) -> bool {
         rest = more;
     }
     same && here.is_empty()
-}
-
-/// The lines of the books.
-pub(crate) fn notes_of<'a>(alloc: Global, lines: &[Line<'a>]) -> Result<Vec<Note<'a>>, AllocError> {
-    let mut notes = Vec::new(alloc);
-    for line in lines {
-        if let Said::Note(tag) = line.said {
-            let mut words = Vec::new(alloc);
-            words_of(&mut words, line.text)?;
-            notes.push(Note { tag, words })?;
-        }
-    }
-    Ok(notes)
-}
-
-/// Of each row the word for how its Job ended, or how far it is; empty where it has no line.
-pub(crate) fn states_of<'a>(
-    alloc: Global,
-    rows: u16,
-    lines: &[Line<'a>],
-) -> Result<Vec<&'a [u8]>, AllocError> {
-    let none: &'a [u8] = b"";
-    let mut states = vec![in alloc; none; rows as usize]?;
-    let mut words = Vec::new(alloc);
-    for line in lines {
-        if let Said::Job(row) = line.said {
-            words_of(&mut words, line.text)?;
-            if let Some(state) = states.get_mut(row as usize) {
-                *state = word_at(words.as_slice(), 2);
-            }
-        }
-    }
-    Ok(states)
 }

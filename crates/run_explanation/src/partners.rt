@@ -2,9 +2,11 @@
 
 use crate::notes::Note;
 use crate::story::Story;
+use crate::verbs::OFFER;
 use crate::walk::code_of;
-use script_reader::Instruction;
-use std::alloc::{AllocError, Global};
+use gathered::{Gathered, at};
+use script_reader::{Channel, Instruction};
+use std::alloc::Global;
 
 /// What a wait waits for.
 #[derive(Clone, Copy)]
@@ -18,28 +20,40 @@ pub(crate) enum Awaited {
     Unknown,
 }
 
+/// The number of no channel: a script has fewer.
+const NO_CHANNEL: u16 = u16::MAX;
+
+/// The number of the channel with this name.
+fn channel_named(channels: &[Channel], name: &[u8]) -> u16 {
+    let mut c = 0u16;
+    for channel in channels {
+        if channel.name.as_bytes() == name {
+            return c;
+        }
+        c = c.saturating_add(1);
+    }
+    NO_CHANNEL
+}
+
 /// What the line that begins a wait waits for.
 pub(crate) fn awaited_by(story: &Story<'_>, note: &Note<'_>) -> Awaited {
     if let Some(row) = note.done_row() {
         return Awaited::End(row);
     }
-    let mut c = 0u16;
-    for channel in story.script.channels() {
-        if channel.name.as_bytes() == note.word(2) {
-            if note.is_one_of(b"offer") {
-                return Awaited::Receiver(c);
-            }
-            return Awaited::Element(c);
-        }
-        c = c.saturating_add(1);
+    let c = channel_named(story.script.channels(), note.word(2));
+    if c == NO_CHANNEL {
+        Awaited::Unknown
+    } else if note.is_one_of(OFFER) {
+        Awaited::Receiver(c)
+    } else {
+        Awaited::Element(c)
     }
-    Awaited::Unknown
 }
 
 /// Whether a line can end such a wait; of the blocks that it may launch, those that can are known.
 fn can_end(line: Instruction, awaited: Awaited, blocks: &[bool]) -> bool {
     if let Instruction::Launch { block, .. } = line {
-        return blocks.get(block as usize).copied().unwrap_or(false);
+        return at(blocks, block as usize, false);
     }
     match awaited {
         Awaited::Element(c) => brings(line, c),
@@ -81,120 +95,114 @@ fn one_can_end(code: &[Instruction], from: usize, awaited: Awaited, blocks: &[bo
     false
 }
 
-/// Of each block, whether an instance of it can end such a wait: a block launches only those before it.
-fn blocks_that_can(
-    alloc: Global,
-    story: &Story<'_>,
-    awaited: Awaited,
-) -> Result<Vec<bool>, AllocError> {
-    let mut blocks = Vec::new(alloc);
+/// Adds of each block whether an instance of it can end such a wait: a block launches only those before it.
+fn add_blocks(blocks: &mut Gathered<bool>, story: &Story<'_>, awaited: Awaited) {
     for block in story.script.blocks() {
         let can = one_can_end(block.code.as_slice(), 0, awaited, blocks.as_slice());
-        blocks.push(can)?;
+        blocks.add(can);
     }
-    Ok(blocks)
 }
 
-/// The coroutines that can end the Job of a row: its own, or those below a scope.
-fn push_below(found: &mut Vec<u32>, story: &Story<'_>, row: u32) -> Result<(), AllocError> {
-    let coroutines = story.script.coroutines();
-    if row < u32::from(coroutines) {
+/// Adds the coroutines that can end the Job of a row: its own, or those below a scope.
+fn add_below(found: &mut Gathered<u32>, story: &Story<'_>, row: u32) {
+    let coroutines = u32::from(story.script.coroutines());
+    if row < coroutines {
         if !story.has_ended(row) {
-            found.push(row)?;
+            found.add(row);
         }
-        return Ok(());
+        return;
     }
     for tag in 0..coroutines {
-        let tag = u32::from(tag);
-        if story.is_there(tag) && !story.has_ended(tag) && story.parent(tag) == Some(row) {
-            found.push(tag)?;
+        if story.is_open_below(tag, row) {
+            found.add(tag);
         }
     }
-    Ok(())
 }
 
 /// Adds the coroutines beside this one that have a line left which can end such a wait.
-pub(crate) fn push_partners(
-    alloc: Global,
-    found: &mut Vec<u32>,
+fn add_able(
+    found: &mut Gathered<u32>,
     story: &Story<'_>,
     tag: u32,
     awaited: Awaited,
-) -> Result<(), AllocError> {
-    if let Awaited::End(row) = awaited {
-        return push_below(found, story, row);
-    }
-    let blocks = blocks_that_can(alloc, story, awaited)?;
-    for other in 0..story.script.coroutines() {
-        let other = u32::from(other);
-        if other != tag
-            && story.is_there(other)
-            && let Some(from) = story.left_from(other)
-            && one_can_end(
-                code_of(story.script, other),
-                from,
-                awaited,
-                blocks.as_slice(),
-            )
-            && !found.as_slice().contains(&other)
-        {
-            found.push(other)?;
+    blocks: &[bool],
+) {
+    for other in 0..u32::from(story.script.coroutines()) {
+        if other != tag && story.is_open(other) {
+            let code = code_of(story.script, other);
+            let left_from = story.row(other).left_from;
+            if one_can_end(code, left_from, awaited, blocks) && !found.as_slice().contains(&other) {
+                found.add(other);
+            }
         }
     }
-    Ok(())
 }
 
-/// The coroutines that could end the wait of a coroutine.
-pub(crate) fn partners_of(
+/// Adds the coroutines beside this one that can end such a wait.
+fn add_partners(
     alloc: Global,
+    found: &mut Gathered<u32>,
     story: &Story<'_>,
     tag: u32,
-) -> Result<Vec<u32>, AllocError> {
-    let mut found = Vec::new(alloc);
-    let Some(last) = story.wait_of(tag) else {
-        return Ok(found);
+    awaited: Awaited,
+) {
+    if let Awaited::End(row) = awaited {
+        return add_below(found, story, row);
+    }
+    let mut blocks = Gathered::new(alloc);
+    add_blocks(&mut blocks, story, awaited);
+    add_able(found, story, tag, awaited, blocks.as_slice());
+    found.full = found.full || blocks.full;
+}
+
+/// Adds the coroutines that could end the wait of a coroutine.
+pub(crate) fn find_partners(alloc: Global, found: &mut Gathered<u32>, story: &Story<'_>, tag: u32) {
+    let known = story.row(tag);
+    let Some(last) = story.note(known.wait) else {
+        return;
     };
-    let (first, end) = story.book(tag);
-    for number in first..end {
-        if story.is_of_wait(number, last)
-            && let Some(note) = story.notes.get(number)
+    for number in known.first..known.end {
+        if let Some(note) = story.note(number)
+            && note.begins()
+            && note.wait() == last.wait()
         {
-            push_partners(alloc, &mut found, story, tag, awaited_by(story, note))?;
+            add_partners(alloc, found, story, tag, awaited_by(story, note));
         }
     }
-    Ok(found)
 }
 
 /// The most coroutines of a circle that is looked for.
 const LONGEST: usize = 16;
 
-/// A circle of waits in which a coroutine is, if there is one: each waits for the next, and the last for the first. Of those who could
-/// end a wait the first that waits is looked at alone.
-pub(crate) fn circle_of(
+/// Adds the circle of waits in which a coroutine is the first, and says whether there is one: each waits for the next, and the last for
+/// the first. Of those who could end a wait the first that waits is looked at alone.
+pub(crate) fn find_circle(
     alloc: Global,
+    circle: &mut Gathered<u32>,
     story: &Story<'_>,
     tag: u32,
-) -> Result<Vec<u32>, AllocError> {
-    let mut circle = Vec::new(alloc);
+) -> bool {
     let mut here = tag;
     for _step in 0..LONGEST {
-        circle.push(here)?;
-        let partners = partners_of(alloc, story, here)?;
+        circle.add(here);
+        let mut partners = Gathered::new(alloc);
+        find_partners(alloc, &mut partners, story, here);
+        circle.full = circle.full || partners.full;
         let Some(next) = first_waiting(story, partners.as_slice()) else {
-            return Ok(Vec::new(alloc));
+            return false;
         };
-        if next == tag {
-            return Ok(circle);
+        if next <= tag {
+            return next == tag;
         }
         here = next;
     }
-    Ok(Vec::new(alloc))
+    false
 }
 
 /// The first of these that waits.
 fn first_waiting(story: &Story<'_>, tags: &[u32]) -> Option<u32> {
     for tag in tags {
-        if story.is_waiting(*tag) {
+        if story.row(*tag).waits {
             return Some(*tag);
         }
     }

@@ -1,13 +1,26 @@
 //! The lines of a script's text, for hints.
 
+use gathered::{Gathered, NOWHERE, at};
 use report_reader::cut_at;
-use std::alloc::{AllocError, Global};
+use std::alloc::Global;
 
-/// A line with words, and its number.
+/// A line with words, and its number, which is counted from 1.
 #[derive(Clone, Copy)]
 pub(crate) struct SourceLine<'a> {
     pub(crate) number: u32,
     pub(crate) text: &'a [u8],
+}
+
+/// Where no line is known.
+pub(crate) const NO_LINE: SourceLine<'static> = SourceLine {
+    number: 0,
+    text: b"",
+};
+
+impl<'a> SourceLine<'a> {
+    pub(crate) fn is_known(self) -> bool {
+        self.number > 0
+    }
 }
 
 fn is_blank(byte: u8) -> bool {
@@ -60,37 +73,62 @@ fn is_head(text: &[u8]) -> bool {
     word == b"coroutine".as_slice()
 }
 
-/// Of each coroutine, in the order of the text, the lines behind its first.
-pub(crate) fn blocks_of<'a>(
-    alloc: Global,
-    source: &'a [u8],
-) -> Result<Vec<Vec<SourceLine<'a>>>, AllocError> {
-    let mut blocks: Vec<Vec<SourceLine<'a>>> = Vec::new(alloc);
-    let mut number = 0u32;
-    let mut rest = source;
-    loop {
-        let (line, more) = cut_at(b'\n', rest);
-        number = number.saturating_add(1);
-        let text = words_in(line);
-        if is_head(text) {
-            blocks.push(Vec::new(alloc))?;
-        } else if !text.is_empty() {
-            add_line(&mut blocks, SourceLine { number, text })?;
-        }
-        let Some(next) = more else {
-            return Ok(blocks);
-        };
-        rest = next;
-    }
+/// The lines with words of a script's text, and of each coroutine, in the order of the text, how many of them stand before its own.
+#[derive(Drop)]
+pub(crate) struct Source<'a> {
+    lines: Gathered<SourceLine<'a>>,
+    blocks: Gathered<usize>,
 }
 
-/// Adds a line to the last coroutine.
-fn add_line<'a>(
-    blocks: &mut Vec<Vec<SourceLine<'a>>>,
-    line: SourceLine<'a>,
-) -> Result<(), AllocError> {
-    if let Some(block) = blocks.last_mut() {
-        block.push(line)?;
+impl<'a> Source<'a> {
+    pub(crate) fn new(alloc: Global) -> Source<'a> {
+        Source {
+            lines: Gathered::new(alloc),
+            blocks: Gathered::new(alloc),
+        }
     }
-    Ok(())
+
+    /// Whether memory ran out.
+    pub(crate) fn is_full(&self) -> bool {
+        self.lines.full || self.blocks.full
+    }
+
+    /// Adds the lines of a text.
+    pub(crate) fn read(&mut self, text: &'a [u8]) {
+        let mut number = 0u32;
+        let mut rest = text;
+        'lines: loop {
+            let (line, more) = cut_at(b'\n', rest);
+            number = number.saturating_add(1);
+            self.add(SourceLine {
+                number,
+                text: words_in(line),
+            });
+            let Some(next) = more else {
+                return;
+            };
+            rest = next;
+        }
+    }
+
+    fn add(&mut self, line: SourceLine<'a>) {
+        if is_head(line.text) {
+            let before = self.lines.as_slice().len();
+            self.blocks.add(before);
+        } else if !line.text.is_empty() {
+            self.lines.add(line);
+        }
+    }
+
+    /// This line of this coroutine; that of number 0, if there is none.
+    pub(crate) fn line(&self, block: u16, line: usize) -> SourceLine<'a> {
+        let block = block as usize;
+        let blocks = self.blocks.as_slice();
+        let place = at(blocks, block, NOWHERE).saturating_add(line);
+        if place < at(blocks, block + 1, NOWHERE) {
+            at(self.lines.as_slice(), place, NO_LINE)
+        } else {
+            NO_LINE
+        }
+    }
 }

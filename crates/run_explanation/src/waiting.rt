@@ -81,6 +81,5 @@ pub(crate) fn waiting(alloc: Global, lines: &[Line]) -> Result<Vec<u32>, AllocEr
     ensures { IfOk result (λ tags. tags.items ≡ waiting (told_lines lines.now)) }
 {
     let marks = marks_of(alloc, lines)?;
-    let tags = waiting_in(alloc, marks.as_slice())?;
-    Ok(tags)
+    waiting_in(alloc, marks.as_slice())
 }

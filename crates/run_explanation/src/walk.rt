@@ -4,8 +4,14 @@
 //! own, as what a close woke, are passed over.
 
 use crate::notes::{Note, is_in};
+use crate::verbs::{
+    ALREADY_CLOSED, ATTACH, AWAIT, CLOSE, DRAIN, DROP, EMPTY, END_BODY, FAIL, FULL, HAND, OFFER,
+    PUT, RECEIVE_CLOSED, SAW, SAW_END, SEND_CLOSED, SETTLE, SPENT, SPURN, TAKE, TRY_RECEIVE_CLOSED,
+    TRY_SEND_CLOSED, WITHDRAW,
+};
+use gathered::{Gathered, NOWHERE, at};
 use script_reader::{Channel, Instruction, Script, is_end, opens_lines};
-use std::alloc::{AllocError, Global};
+use std::alloc::Global;
 
 /// A line that is open: a repeat with turns left, an each, or a scope.
 #[derive(Clone, Copy)]
@@ -14,6 +20,13 @@ struct Open {
     turns: u32,
     scope: bool,
 }
+
+/// That of an `end` that closes nothing.
+const NO_OPEN: Open = Open {
+    head: 0,
+    turns: 0,
+    scope: false,
+};
 
 /// How far a coroutine got.
 #[derive(Drop)]
@@ -24,13 +37,15 @@ pub(crate) struct Walk<'s> {
     at: usize,
     waits: bool,
     /// Its body ended or broke off.
-    pub(crate) over: bool,
+    over: bool,
     /// Its notes are not those of its lines.
-    pub(crate) lost: bool,
+    lost: bool,
     revoked: bool,
     /// The line of the note before.
-    last: Option<usize>,
-    open: Vec<Open>,
+    last: usize,
+    open: Gathered<Open>,
+    /// How many lines may still be passed, by this coroutine and those after it.
+    budget: u32,
 }
 
 /// What a line says of a note.
@@ -43,13 +58,20 @@ enum Look {
     Lost,
 }
 
-const SENDS: &[u8] = b"hand put offer sendclosed spent";
+const SENDS: u32 = HAND | PUT | OFFER | SEND_CLOSED | SPENT;
 
-const RECEIVES: &[u8] = b"take await receiveclosed spent";
+const RECEIVES: u32 = TAKE | AWAIT | RECEIVE_CLOSED | SPENT;
 
-const OWN: &[u8] =
-    b"hand put offer take await sendclosed trysendclosed receiveclosed tryreceiveclosed full empty close \
-    alreadyclosed attach fail spent";
+const OWN: u32 = SENDS
+    | RECEIVES
+    | TRY_SEND_CLOSED
+    | TRY_RECEIVE_CLOSED
+    | FULL
+    | EMPTY
+    | CLOSE
+    | ALREADY_CLOSED
+    | ATTACH
+    | FAIL;
 
 /// The place of the `end` that closes what the line at this place opens; behind the last line where there is none.
 pub(crate) fn closing(code: &[Instruction], head: usize) -> usize {
@@ -77,17 +99,55 @@ fn is_channel(channels: &[Channel], c: u16, word: &[u8]) -> bool {
     }
 }
 
-pub(crate) fn walk_of<'s>(alloc: Global, script: &'s Script, tag: u32) -> Walk<'s> {
+/// The verbs of the notes that a line makes on its channel; none for a line without one.
+fn verbs_of(line: Instruction) -> u32 {
+    match line {
+        Instruction::Send { .. } => SENDS,
+        Instruction::TrySend { .. } => HAND | PUT | FULL | TRY_SEND_CLOSED | SPENT,
+        Instruction::Receive { .. } | Instruction::Each { .. } => RECEIVES,
+        Instruction::TryReceive { .. } => TAKE | EMPTY | TRY_RECEIVE_CLOSED | SPENT,
+        Instruction::Close { .. } | Instruction::CancelChannel { .. } => CLOSE | ALREADY_CLOSED,
+        _ => 0,
+    }
+}
+
+/// The channel of a line that is on one.
+fn channel_of(line: Instruction) -> u16 {
+    match line {
+        Instruction::Send { c, .. }
+        | Instruction::TrySend { c, .. }
+        | Instruction::Receive { c }
+        | Instruction::Each { c }
+        | Instruction::TryReceive { c }
+        | Instruction::Close { c }
+        | Instruction::CancelChannel { c }
+        | Instruction::OnSend { c, .. }
+        | Instruction::OnReceive { c } => c,
+        _ => u16::MAX,
+    }
+}
+
+/// Whether a line is a clause of a select that is on this channel.
+fn is_clause_on(channels: &[Channel], line: Instruction, word: &[u8]) -> bool {
+    matches!(
+        line,
+        Instruction::OnSend { .. } | Instruction::OnReceive { .. }
+    ) && is_channel(channels, channel_of(line), word)
+}
+
+/// A walk that may pass so many lines.
+pub(crate) fn walk_of<'s>(alloc: Global, script: &'s Script, budget: u32) -> Walk<'s> {
     Walk {
-        code: code_of(script, tag),
+        code: &[],
         channels: script.channels(),
         at: 0,
         waits: false,
         over: false,
         lost: false,
         revoked: false,
-        last: None,
-        open: Vec::new(alloc),
+        last: NOWHERE,
+        open: Gathered::new(alloc),
+        budget,
     }
 }
 
@@ -105,8 +165,31 @@ pub(crate) fn code_of(script: &Script, tag: u32) -> &[Instruction] {
 }
 
 impl<'s> Walk<'s> {
-    fn line(&self) -> Option<Instruction> {
-        self.code.get(self.at).copied()
+    /// Goes to the first of these lines.
+    pub(crate) fn begin(&mut self, code: &'s [Instruction]) {
+        self.code = code;
+        self.at = 0;
+        self.waits = false;
+        self.over = false;
+        self.lost = false;
+        self.revoked = false;
+        self.last = NOWHERE;
+        self.open.as_mut().clear();
+    }
+
+    /// Whether memory ran out.
+    pub(crate) fn is_full(&self) -> bool {
+        self.open.full
+    }
+
+    /// The line that is next; an `end` behind the last.
+    fn line(&self) -> Instruction {
+        at(self.code, self.at, Instruction::End)
+    }
+
+    /// The first line behind the block that begins at the line that is next.
+    fn behind_block(&self) -> usize {
+        closing(self.code, self.at).saturating_add(1)
     }
 
     /// The first line that may still be run.
@@ -129,131 +212,131 @@ impl<'s> Walk<'s> {
         }
     }
 
-    /// The line that a note was made at, if that can be told. So many lines may be passed.
-    pub(crate) fn take(
-        &mut self,
-        note: &Note<'_>,
-        budget: &mut u32,
-    ) -> Result<Option<usize>, AllocError> {
-        if note.is_one_of(b"settle") {
-            self.settle(note.word(3))?;
-            Ok(None)
-        } else if note.is_one_of(b"saw") || self.breaks_off(note) {
-            self.over = true;
-            Ok(None)
-        } else if note.is_one_of(b"withdraw") {
-            self.revoked = note.word(3) == b"revoked".as_slice();
-            Ok(None)
-        } else if note.is_one_of(b"drop spurn drain") {
-            Ok(self.last)
-        } else if !note.is_one_of(OWN) || self.closes_done(note) {
-            Ok(None)
+    /// The line that a note was made at, if that can be told.
+    pub(crate) fn take(&mut self, note: &Note<'_>) -> usize {
+        if note.is_one_of(OWN) && !self.closes_done(note) {
+            self.last = self.made_at(note);
+            self.last
         } else {
-            self.last = if self.over {
-                self.unwind(note)
-            } else {
-                self.find(note, budget)?
-            };
-            Ok(self.last)
+            self.pass(note);
+            self.given_up(note)
         }
+    }
+
+    /// The line of a note by which its coroutine gives up an element: that of the note before.
+    fn given_up(&self, note: &Note<'_>) -> usize {
+        if note.is_one_of(DROP | SPURN | DRAIN) {
+            self.last
+        } else {
+            NOWHERE
+        }
+    }
+
+    /// Passes a note that is no line's own.
+    fn pass(&mut self, note: &Note<'_>) {
+        if note.is_one_of(SETTLE) {
+            self.settle(note.word(3));
+        }
+        if note.is_one_of(WITHDRAW) {
+            self.revoked = note.word(3) == b"revoked".as_slice();
+        }
+        self.over = self.over || self.breaks_off(note);
     }
 
     /// Whether its body ended by it, or saw an end that breaks it off. That of a scope ends by a note on the scope's row.
     fn breaks_off(&self, note: &Note<'_>) -> bool {
-        if note.is_one_of(b"endbody") {
-            note.number(2) == Some(note.tag)
-        } else {
-            note.is_one_of(b"sawend") && note.word(3) != b"completed".as_slice()
-        }
+        note.is_one_of(SAW)
+            || (note.is_one_of(END_BODY) && note.number(2) == Some(note.tag))
+            || (note.is_one_of(SAW_END) && note.word(3) != b"completed".as_slice())
     }
 
     /// Whether it closes the done channel of a Job, which no line does.
     fn closes_done(&self, note: &Note<'_>) -> bool {
-        note.is_one_of(b"close") && note.done_row().is_some()
+        note.is_one_of(CLOSE) && note.is_done()
+    }
+
+    /// The line that a note of a line was made at.
+    fn made_at(&mut self, note: &Note<'_>) -> usize {
+        if !self.over {
+            self.find(note)
+        } else if note.is_one_of(AWAIT | RECEIVE_CLOSED) && note.is_done() {
+            self.unwind()
+        } else {
+            NOWHERE
+        }
     }
 
     /// The `end` of the innermost scope, whose end a body that broke off waits for.
-    fn unwind(&mut self, note: &Note<'_>) -> Option<usize> {
-        if !note.is_one_of(b"await receiveclosed") || note.done_row().is_none() {
-            return None;
-        }
-        for _open in 0..self.open.len() {
-            match self.open.pop() {
-                Some(open) if open.scope => return Some(closing(self.code, open.head)),
+    fn unwind(&mut self) -> usize {
+        for _open in 0..self.open.as_slice().len() {
+            match self.open.as_mut().pop() {
+                Some(open) if open.scope => return closing(self.code, open.head),
                 _ => {}
             }
         }
-        None
+        NOWHERE
     }
 
-    fn find(&mut self, note: &Note<'_>, budget: &mut u32) -> Result<Option<usize>, AllocError> {
+    fn find(&mut self, note: &Note<'_>) -> usize {
         for _step in 0..u32::MAX {
-            if self.lost || *budget == 0 {
+            if self.lost || self.budget == 0 {
                 break;
             }
-            *budget -= 1;
-            match self.look(note)? {
-                Look::Found(line) => return Ok(Some(line)),
+            self.budget -= 1;
+            match self.look(note) {
+                Look::Found(line) => return line,
                 Look::On => {}
                 Look::Lost => break,
             }
         }
         self.lost = true;
-        Ok(None)
+        NOWHERE
     }
 
     /// What the line that is next says of a note.
-    fn look(&mut self, note: &Note<'_>) -> Result<Look, AllocError> {
-        let Some(line) = self.line() else {
-            return Ok(Look::Lost);
-        };
+    fn look(&mut self, note: &Note<'_>) -> Look {
+        if self.at >= self.code.len() {
+            return Look::Lost;
+        }
+        let line = self.line();
         match line {
-            Instruction::Send { c, .. } => Ok(self.on_channel(note, c, SENDS)),
-            Instruction::TrySend { c, .. } => {
-                Ok(self.on_channel(note, c, b"hand put full trysendclosed spent"))
+            Instruction::Repeat { turns } => {
+                self.enter(turns.saturating_sub(1), false);
+                Look::On
             }
-            Instruction::Receive { c } => Ok(self.on_channel(note, c, RECEIVES)),
-            Instruction::TryReceive { c } => {
-                Ok(self.on_channel(note, c, b"take empty tryreceiveclosed spent"))
+            Instruction::Each { .. } => self.look_at_each(line, note),
+            Instruction::Scope { .. } => self.look_at_scope(note),
+            Instruction::Select => self.look_at_select(note),
+            Instruction::End => self.look_at_end(note),
+            Instruction::Yield
+            | Instruction::Start { .. }
+            | Instruction::Cancel { .. }
+            | Instruction::SetResult { .. }
+            | Instruction::OnSend { .. }
+            | Instruction::OnReceive { .. } => {
+                self.go_on();
+                Look::On
             }
-            Instruction::Close { c } | Instruction::CancelChannel { c } => {
-                Ok(self.on_channel(note, c, b"close alreadyclosed"))
+            _ => {
+                let good = self.makes(line, note);
+                self.found_if(good, note)
             }
-            Instruction::Launch { .. } => {
-                Ok(self.found_if(is_in(note.word(7), b"plain lazy"), note))
-            }
-            Instruction::Join { .. } | Instruction::Await { .. } => {
-                Ok(self.found_if(note.done_row().is_some(), note))
-            }
-            Instruction::Fail { .. } => Ok(self.found_if(note.is_one_of(b"fail"), note)),
-            _ => self.look_at_block(line, note),
         }
     }
 
-    /// The same of a line that opens or closes others, or makes no note.
-    fn look_at_block(&mut self, line: Instruction, note: &Note<'_>) -> Result<Look, AllocError> {
+    /// Whether a line that stands for itself makes a note.
+    fn makes(&self, line: Instruction, note: &Note<'_>) -> bool {
         match line {
-            Instruction::Repeat { turns } => {
-                self.enter(turns.saturating_sub(1), false)?;
-                Ok(Look::On)
-            }
-            Instruction::Each { c } => self.look_at_each(note, c),
-            Instruction::Scope { .. } => {
-                if is_in(note.word(7), b"scope supervisor") {
-                    let here = self.at;
-                    self.enter(0, true)?;
-                    Ok(Look::Found(here))
-                } else {
-                    Ok(Look::Lost)
-                }
-            }
-            Instruction::Select => Ok(self.look_at_select(note)),
-            Instruction::End => self.look_at_end(note),
-            _ => {
-                self.go_on();
-                Ok(Look::On)
-            }
+            Instruction::Launch { .. } => is_in(note.word(7), b"plain lazy"),
+            Instruction::Join { .. } | Instruction::Await { .. } => note.is_done(),
+            Instruction::Fail { .. } => note.is_one_of(FAIL),
+            _ => self.is_on_channel(line, note),
         }
+    }
+
+    /// Whether a line makes a note on its channel.
+    fn is_on_channel(&self, line: Instruction, note: &Note<'_>) -> bool {
+        note.is_one_of(verbs_of(line)) && is_channel(self.channels, channel_of(line), note.word(2))
     }
 
     fn go_on(&mut self) {
@@ -261,14 +344,13 @@ impl<'s> Walk<'s> {
     }
 
     /// Enters the line that is next.
-    fn enter(&mut self, turns: u32, scope: bool) -> Result<(), AllocError> {
-        self.open.push(Open {
+    fn enter(&mut self, turns: u32, scope: bool) {
+        self.open.add(Open {
             head: self.at,
             turns,
             scope,
-        })?;
+        });
         self.go_on();
-        Ok(())
     }
 
     /// The note is that of this line if it is so; then the line is passed, or waits.
@@ -277,9 +359,9 @@ impl<'s> Walk<'s> {
             return Look::Lost;
         }
         let here = self.at;
-        if note.begun().is_some() {
+        if note.begins() {
             self.waits = true;
-        } else if note.is_one_of(b"spent fail") {
+        } else if note.is_one_of(SPENT | FAIL) {
             self.over = true;
         } else {
             self.go_on();
@@ -287,101 +369,101 @@ impl<'s> Walk<'s> {
         Look::Found(here)
     }
 
-    fn on_channel(&mut self, note: &Note<'_>, c: u16, verbs: &[u8]) -> Look {
-        let good = note.is_one_of(verbs) && is_channel(self.channels, c, note.word(2));
-        self.found_if(good, note)
-    }
-
-    fn look_at_each(&mut self, note: &Note<'_>, c: u16) -> Result<Look, AllocError> {
-        if !note.is_one_of(RECEIVES) || !is_channel(self.channels, c, note.word(2)) {
-            return Ok(Look::Lost);
+    fn look_at_scope(&mut self, note: &Note<'_>) -> Look {
+        if !is_in(note.word(7), b"scope supervisor") {
+            return Look::Lost;
         }
         let here = self.at;
-        if note.is_one_of(b"await") {
-            self.waits = true;
-        } else if note.is_one_of(b"take") {
-            self.enter(1, false)?;
-        } else {
-            self.at = closing(self.code, here).saturating_add(1);
-        }
-        Ok(Look::Found(here))
+        self.enter(0, true);
+        Look::Found(here)
     }
 
-    fn look_at_end(&mut self, note: &Note<'_>) -> Result<Look, AllocError> {
-        match self.open.pop() {
-            Some(open) if open.scope => Ok(self.found_if(note.done_row().is_some(), note)),
-            Some(open) if open.turns > 0 => {
-                self.turn(open)?;
-                Ok(Look::On)
-            }
-            _ => {
-                self.go_on();
-                Ok(Look::On)
-            }
+    fn look_at_each(&mut self, line: Instruction, note: &Note<'_>) -> Look {
+        if !self.is_on_channel(line, note) {
+            return Look::Lost;
         }
+        let here = self.at;
+        if note.is_one_of(AWAIT) {
+            self.waits = true;
+        } else if note.is_one_of(TAKE) {
+            self.enter(1, false);
+        } else {
+            self.at = self.behind_block();
+        }
+        Look::Found(here)
+    }
+
+    fn look_at_end(&mut self, note: &Note<'_>) -> Look {
+        let open = match self.open.as_mut().pop() {
+            Some(open) => open,
+            None => NO_OPEN,
+        };
+        if open.scope {
+            return self.found_if(note.is_done(), note);
+        }
+        if open.turns > 0 {
+            self.turn(open);
+        } else {
+            self.go_on();
+        }
+        Look::On
     }
 
     /// Begins one more turn of a repeat, or looks at an each again.
-    fn turn(&mut self, open: Open) -> Result<(), AllocError> {
+    fn turn(&mut self, open: Open) {
         self.at = open.head;
-        if let Some(Instruction::Repeat { .. }) = self.line() {
-            self.open.push(Open {
-                turns: open.turns.saturating_sub(1),
-                ..open
-            })?;
-            self.go_on();
+        if matches!(self.line(), Instruction::Repeat { .. }) {
+            self.enter(open.turns.saturating_sub(1), open.scope);
         }
-        Ok(())
     }
 
     /// The clause of a select that is on this channel.
-    fn clause(&self, word: &[u8]) -> Option<usize> {
+    fn clause(&self, word: &[u8]) -> usize {
         let end = closing(self.code, self.at);
         for (i, line) in self.code.iter().enumerate() {
-            if i > self.at && i < end {
-                match line {
-                    Instruction::OnSend { c, .. } | Instruction::OnReceive { c } => {
-                        if is_channel(self.channels, *c, word) {
-                            return Some(i);
-                        }
-                    }
-                    _ => {}
-                }
+            if i > self.at && i < end && is_clause_on(self.channels, *line, word) {
+                return i;
             }
         }
-        None
+        NOWHERE
     }
 
     fn look_at_select(&mut self, note: &Note<'_>) -> Look {
-        let Some(clause) = self.clause(note.word(2)) else {
+        let clause = self.clause(note.word(2));
+        if clause == NOWHERE {
             return Look::Lost;
-        };
-        if note.begun().is_some() {
+        }
+        if note.begins() {
             self.waits = true;
-        } else if !note.is_one_of(b"full empty") {
-            self.at = closing(self.code, self.at).saturating_add(1);
+        } else if !note.is_one_of(FULL | EMPTY) {
+            self.at = self.behind_block();
         }
         Look::Found(clause)
     }
 
     /// A wait ended so.
-    fn settle(&mut self, how: &[u8]) -> Result<(), AllocError> {
+    fn settle(&mut self, how: &[u8]) {
         if !self.waits {
-            return Ok(());
+            return;
         }
         self.waits = false;
-        let ended = is_in(how, b"cancelled undelivered");
-        match self.line() {
-            Some(Instruction::Select) if ended => self.over = self.over || !self.revoked,
-            Some(Instruction::Select) => self.at = closing(self.code, self.at).saturating_add(1),
-            _ if ended => self.over = true,
-            Some(Instruction::Each { .. }) if how == b"closed".as_slice() => {
-                self.at = closing(self.code, self.at).saturating_add(1);
-            }
-            Some(Instruction::Each { .. }) => self.enter(1, false)?,
-            _ => self.go_on(),
-        }
+        let line = self.line();
+        self.go_on_from(line, how);
         self.revoked = false;
-        Ok(())
+    }
+
+    /// Goes on from the line at which a wait ended so.
+    fn go_on_from(&mut self, line: Instruction, how: &[u8]) {
+        let is_select = matches!(line, Instruction::Select);
+        let is_each = matches!(line, Instruction::Each { .. });
+        if is_in(how, b"cancelled undelivered") {
+            self.over = self.over || !is_select || !self.revoked;
+        } else if is_select || (is_each && how == b"closed".as_slice()) {
+            self.at = self.behind_block();
+        } else if is_each {
+            self.enter(1, false);
+        } else {
+            self.go_on();
+        }
     }
 }
