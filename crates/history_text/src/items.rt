@@ -109,11 +109,15 @@ fn offer_by(names: &Names, words: &[&[u8]]) -> Option<ChannelNote>
     let [c, place, value, main, clause] = words else {
         return None;
     };
-    let c = channel_at(names, *c)?;
-    let place = value_of(*place)?;
-    let value = value_of(*value)?;
-    let main = wait_at(names, *main)?;
-    let clause = clause_at(*clause)?;
+    let (Some(c), Some(place), Some(value), Some(main), Some(clause)) = (
+        channel_at(names, *c),
+        value_of(*place),
+        value_of(*value),
+        wait_at(names, *main),
+        clause_at(*clause),
+    ) else {
+        return None;
+    };
     Some(ChannelNote::Made(Act::Offer {
         c,
         place,
@@ -130,10 +134,14 @@ fn await_by(names: &Names, words: &[&[u8]]) -> Option<ChannelNote>
     let [c, place, main, clause] = words else {
         return None;
     };
-    let c = channel_at(names, *c)?;
-    let place = value_of(*place)?;
-    let main = wait_at(names, *main)?;
-    let clause = clause_at(*clause)?;
+    let (Some(c), Some(place), Some(main), Some(clause)) = (
+        channel_at(names, *c),
+        value_of(*place),
+        wait_at(names, *main),
+        clause_at(*clause),
+    ) else {
+        return None;
+    };
     Some(ChannelNote::Made(Act::Await {
         c,
         place,
@@ -216,8 +224,9 @@ fn settle_by(names: &Names, words: &[&[u8]]) -> Option<ChannelNote>
     let [w, how @ ..] = words else {
         return None;
     };
-    let w = wait_at(names, *w)?;
-    let outcome = ended_by(how)?;
+    let (Some(w), Some(outcome)) = (wait_at(names, *w), ended_by(how)) else {
+        return None;
+    };
     Some(ChannelNote::Made(Act::Settle { w, outcome }))
 }
 

@@ -65,11 +65,11 @@ fn attach_with(
 ) -> Option<JobNote>
     ensures { result ≡ attach_with row parent tag kind cancelled }
 {
-    let row = row?;
-    let parent = parent?;
-    let tag = tag?;
-    let kind = kind?;
-    let cancelled = cancelled?;
+    let (Some(row), Some(parent), Some(tag), Some(kind), Some(cancelled)) = (
+        row, parent, tag, kind, cancelled,
+    ) else {
+        return None;
+    };
     Some(JobNote::Made(JobAct::Attach {
         parent,
         row,
@@ -147,8 +147,9 @@ fn cancel_by(words: &[&[u8]]) -> Option<JobNote>
     let [row, why @ ..] = words else {
         return None;
     };
-    let row = row_at(*row)?;
-    let reason = reason_by(why)?;
+    let (Some(row), Some(reason)) = (row_at(*row), reason_by(why)) else {
+        return None;
+    };
     Some(JobNote::Made(JobAct::Cancel { row, reason }))
 }
 
@@ -160,8 +161,9 @@ fn end_body_by(words: &[&[u8]]) -> Option<JobNote>
     let [row, value] = words else {
         return None;
     };
-    let row = row_at(*row)?;
-    let value = value_of(*value)?;
+    let (Some(row), Some(value)) = (row_at(*row), value_of(*value)) else {
+        return None;
+    };
     Some(JobNote::Made(JobAct::EndBody { row, value }))
 }
 
@@ -206,8 +208,9 @@ fn finish_by(words: &[&[u8]]) -> Option<JobNote>
     let [row, how @ ..] = words else {
         return None;
     };
-    let row = row_at(*row)?;
-    let end = end_by(how)?;
+    let (Some(row), Some(end)) = (row_at(*row), end_by(how)) else {
+        return None;
+    };
     Some(JobNote::Made(JobAct::Finish { row, end }))
 }
 
@@ -217,8 +220,9 @@ fn saw_end_by(words: &[&[u8]]) -> Option<JobNote>
     let [row, how @ ..] = words else {
         return None;
     };
-    let row = row_at(*row)?;
-    let end = end_by(how)?;
+    let (Some(row), Some(end)) = (row_at(*row), end_by(how)) else {
+        return None;
+    };
     Some(JobNote::SawEnd { row, end })
 }
 

@@ -6,4 +6,5 @@ pub mod Resolving
 pub mod Said
 pub mod Deduced
 pub mod Lines
+pub mod Gathering
 pub mod CountedOn

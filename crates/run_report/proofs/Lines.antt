@@ -21,7 +21,7 @@ range_with_len-more n =
     sym (map-same (range_with_len 0 (n + 1))) ∙ map-range_with_len_more (λ k. k) 0 n n (omega arith)
     ∙ ap (λ l. l ++ n ∷ []) (map-same (range_with_len 0 n))
 
-flat_map-range_more : (f : ℕ → List ℕ) (n : ℕ) → flat_map f (range_with_len 0 (n + 1)) ≡ flat_map f (range_with_len 0 n) ++ f n
+pub flat_map-range_more : (f : ℕ → List ℕ) (n : ℕ) → flat_map f (range_with_len 0 (n + 1)) ≡ flat_map f (range_with_len 0 n) ++ f n
 flat_map-range_more f n = ap (flat_map f) (range_with_len-more n) ∙ sym (flat_map_more f [] (range_with_len 0 n) n)
 
 -- the lines of one place more

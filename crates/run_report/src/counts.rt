@@ -48,46 +48,36 @@ pub(crate) fn count_jobs(table: &[JobFacts]) -> JobCounts
 {
     let mut counts = NO_JOBS;
     for (row, facts) in table.iter().enumerate() {
-        counts = counts.with_row(row, *facts);
+        counts.add_row(row, *facts);
     }
     counts
 }
 
 impl JobCounts {
-    /// With the Job of a row, if it is attached.
-    fn with_row(self, row: usize, facts: JobFacts) -> JobCounts
-        requires fit { HasJobsUpTo row self }
+    /// Adds the Job of a row, if it is attached.
+    fn add_row(&mut self, row: usize, facts: JobFacts)
+        requires fit { HasJobsUpTo row self.old }
         requires few { row < 65536 }
-        ensures counts { result ≡ with_row_by self row facts }
-        ensures most { HasJobsUpTo (row + 1) result }
+        ensures counts { self.new ≡ with_row_by self.old row facts }
+        ensures most { HasJobsUpTo (row + 1) self.new }
     {
         if is_attached(row, facts) {
-            self.with_job(row, facts.end)
-        } else {
-            self
+            self.add_job(row, facts.end);
         }
     }
 
-    /// With one more Job after `before` rows.
-    fn with_job(self, before: usize, end: Option<End>) -> JobCounts
-        requires fit { HasJobsUpTo before self }
+    /// Adds one more Job after `before` rows.
+    fn add_job(&mut self, before: usize, end: Option<End>)
+        requires fit { HasJobsUpTo before self.old }
         requires few { before < 65536 }
-        ensures counts { result ≡ with_job self end }
-        ensures most { HasJobsUpTo (before + 1) result }
+        ensures counts { self.new ≡ with_job self.old end }
+        ensures most { HasJobsUpTo (before + 1) self.new }
     {
-        let attached = self.attached + 1;
+        self.attached += 1;
         match end {
-            Some(End::Completed(_)) => JobCounts {
-                attached,
-                completed: self.completed + 1,
-                ..self
-            },
-            Some(End::Cancelled(_)) => JobCounts {
-                attached,
-                cancelled: self.cancelled + 1,
-                ..self
-            },
-            None => JobCounts { attached, ..self },
+            Some(End::Completed(_)) => self.completed += 1,
+            Some(End::Cancelled(_)) => self.cancelled += 1,
+            None => (),
         }
     }
 }
@@ -126,58 +116,39 @@ fn with_places(counts: ElementCounts, c: ChannelId, places: u32, known: &Known) 
     let mut counts = counts;
     let mut before = u64::from(c) * 4_294_967_296;
     for place in 0..places {
-        counts = counts.with_place(before, known.element(c, place));
+        counts.add_place(before, known.element(c, place));
         before += 1;
     }
     counts
 }
 
 impl ElementCounts {
-    /// With the element of a place after `before` others, if it has one.
-    fn with_place(self, before: u64, element: Option<(Value, Fate)>) -> ElementCounts
-        requires fit { HasElementsUpTo before self }
+    /// Adds the element of a place after `before` others, if it has one.
+    fn add_place(&mut self, before: u64, element: Option<(Value, Fate)>)
+        requires fit { HasElementsUpTo before self.old }
         requires few { before < 281474976710656 }
-        ensures counts { result ≡ with_place self element }
-        ensures most { HasElementsUpTo (before + 1) result }
+        ensures counts { self.new ≡ with_place self.old element }
+        ensures most { HasElementsUpTo (before + 1) self.new }
     {
-        match element {
-            Some((_, fate)) => self.with_element(before, fate),
-            None => self,
+        if let Some((_, fate)) = element {
+            self.add_element(before, fate);
         }
     }
 
-    /// With one more element after at most `before` others.
-    fn with_element(self, before: u64, fate: Fate) -> ElementCounts
-        requires fit { HasElementsUpTo before self }
+    /// Adds one more element after at most `before` others.
+    fn add_element(&mut self, before: u64, fate: Fate)
+        requires fit { HasElementsUpTo before self.old }
         requires few { before < 281474976710656 }
-        ensures counts { result ≡ with_element self fate }
-        ensures most { HasElementsUpTo (before + 1) result }
+        ensures counts { self.new ≡ with_element self.old fate }
+        ensures most { HasElementsUpTo (before + 1) self.new }
     {
         match fate {
-            Fate::Received => ElementCounts {
-                received: self.received + 1,
-                ..self
-            },
-            Fate::Undelivered => ElementCounts {
-                undelivered: self.undelivered + 1,
-                ..self
-            },
-            Fate::Dropped => ElementCounts {
-                dropped: self.dropped + 1,
-                ..self
-            },
-            Fate::Spurned => ElementCounts {
-                spurned: self.spurned + 1,
-                ..self
-            },
-            Fate::Withdrawn => ElementCounts {
-                withdrawn: self.withdrawn + 1,
-                ..self
-            },
-            Fate::Held => ElementCounts {
-                held: self.held + 1,
-                ..self
-            },
+            Fate::Received => self.received += 1,
+            Fate::Undelivered => self.undelivered += 1,
+            Fate::Dropped => self.dropped += 1,
+            Fate::Spurned => self.spurned += 1,
+            Fate::Withdrawn => self.withdrawn += 1,
+            Fate::Held => self.held += 1,
         }
     }
 }

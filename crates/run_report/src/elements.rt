@@ -2,7 +2,7 @@
 
 ghost use Rattle.std.specs.Prelude.{◌≡◌, ◌<◌, ◌++◌, length, map, string_bytes, OnOk};
 ghost use Rattle.script_reader.specs.Programs.{declared_of};
-ghost use Rattle.run_report.specs.Elements.{element_line, elements_text, places_text, unless_received};
+ghost use Rattle.run_report.specs.Elements.{element_line, elements_text, fate_line, places_text, unless_received};
 ghost use Rattle.run_report.specs.Known.{IsPlain, element_in};
 
 use crate::fates::Known;
@@ -78,10 +78,23 @@ fn push_fate(
 {
     match fate {
         Fate::Received => Ok(()),
-        Fate::Undelivered => write!(out, "element {name} {place} {value} undelivered\n"),
-        Fate::Dropped => write!(out, "element {name} {place} {value} dropped\n"),
-        Fate::Spurned => write!(out, "element {name} {place} {value} spurned\n"),
-        Fate::Withdrawn => write!(out, "element {name} {place} {value} withdrawn\n"),
-        Fate::Held => write!(out, "element {name} {place} {value} held\n"),
+        Fate::Undelivered => push_line(out, name, place, value, "undelivered"),
+        Fate::Dropped => push_line(out, name, place, value, "dropped"),
+        Fate::Spurned => push_line(out, name, place, value, "spurned"),
+        Fate::Withdrawn => push_line(out, name, place, value, "withdrawn"),
+        Fate::Held => push_line(out, name, place, value, "held"),
     }
+}
+
+/// Adds the line of an element, with the word for its fate.
+fn push_line(
+    out: &mut String,
+    name: &str,
+    place: Place,
+    value: Value,
+    word: &str,
+) -> Result<(), AllocError>
+    ensures { OnOk result (string_bytes out.new ≡ string_bytes out.old ++ fate_line name.now place value word.now) }
+{
+    write!(out, "element {name} {place} {value} {word}\n")
 }

@@ -4,12 +4,12 @@ ghost use Rattle.std.specs.Prelude.{◌≡◌, ℕ, map, OnOk, IfOk};
 ghost use Rattle.note_book.specs.Books.{notes_of};
 ghost use Rattle.note_book.specs.Items.{channel_acts_in};
 ghost use Rattle.run_report.specs.Elements.{channel_acts_noted};
-ghost use Rattle.run_report.specs.Facts.{facts_of, joined, nothing, told, told_at, told_by};
+ghost use Rattle.run_report.specs.Facts.{at_place, facts_of, joined, nothing, told, told_at, told_by};
 ghost use Rattle.run_report.specs.Tables.{value_at};
 
 use crate::table::Table;
 use channel_model::{Act, ChannelNote, Settled};
-use co_base::{Value, WaitId};
+use co_base::{ChannelId, Place, Value, WaitId};
 use note_book::{Item, Notes};
 use std::alloc::{AllocError, Global};
 
@@ -51,6 +51,36 @@ pub(crate) const NOTHING: Facts = Facts {
     received: false,
     gave_up: false,
     withdrawn: false,
+};
+
+const TAKEN: Facts = Facts {
+    taken: true,
+    ..NOTHING
+};
+
+const ADMITTED: Facts = Facts {
+    admitted: true,
+    ..NOTHING
+};
+
+const DROPPED: Facts = Facts {
+    dropped: true,
+    ..NOTHING
+};
+
+const SPURNED: Facts = Facts {
+    spurned: true,
+    ..NOTHING
+};
+
+const DRAINED: Facts = Facts {
+    drained: true,
+    ..NOTHING
+};
+
+const WITHDRAWN: Facts = Facts {
+    withdrawn: true,
+    ..NOTHING
 };
 
 /// What the acts of all these books say of each place.
@@ -125,21 +155,30 @@ fn told_by(item: Item) -> Option<(WaitId, Facts)>
     }
 }
 
+/// What an act says of the place that it names.
+fn at_place(channel: ChannelId, place: Place, facts: Facts) -> Option<(WaitId, Facts)>
+    ensures { result ≡ at_place channel place facts }
+{
+    Some((WaitId { channel, place }, facts))
+}
+
 /// The place or the wait of which the act says something, and what it says.
 fn told_of(act: Act) -> Option<(WaitId, Facts)>
     ensures { result ≡ told act }
 {
-    let (at, facts) = match act {
-        Act::Hand { c, place, value } => (
-            WaitId { channel: c, place },
+    match act {
+        Act::Hand { c, place, value } => at_place(
+            c,
+            place,
             Facts {
                 element: Some(value),
                 handed: true,
                 ..NOTHING
             },
         ),
-        Act::Put { c, place, value } => (
-            WaitId { channel: c, place },
+        Act::Put { c, place, value } => at_place(
+            c,
+            place,
             Facts {
                 element: Some(value),
                 ..NOTHING
@@ -151,8 +190,9 @@ fn told_of(act: Act) -> Option<(WaitId, Facts)>
             value,
             main,
             clause,
-        } => (
-            WaitId { channel: c, place },
+        } => at_place(
+            c,
+            place,
             Facts {
                 element: Some(value),
                 wait: Some(main),
@@ -160,69 +200,28 @@ fn told_of(act: Act) -> Option<(WaitId, Facts)>
                 ..NOTHING
             },
         ),
-        Act::Await {
+        Act::Await { c, place, main, .. } => at_place(
             c,
             place,
-            main,
-            clause: _,
-        } => (
-            WaitId { channel: c, place },
             Facts {
                 wait: Some(main),
                 ..NOTHING
             },
         ),
-        Act::Take { c, place, value: _ } => (
-            WaitId { channel: c, place },
-            Facts {
-                taken: true,
-                ..NOTHING
-            },
-        ),
-        Act::Admit { c, place } => (
-            WaitId { channel: c, place },
-            Facts {
-                admitted: true,
-                ..NOTHING
-            },
-        ),
-        Act::Drop { c, place, value: _ } => (
-            WaitId { channel: c, place },
-            Facts {
-                dropped: true,
-                ..NOTHING
-            },
-        ),
-        Act::Spurn { c, place, value: _ } => (
-            WaitId { channel: c, place },
-            Facts {
-                spurned: true,
-                ..NOTHING
-            },
-        ),
-        Act::Drain { c, place, value: _ } => (
-            WaitId { channel: c, place },
-            Facts {
-                drained: true,
-                ..NOTHING
-            },
-        ),
-        Act::Withdraw { w, why: _ } => (
-            w,
-            Facts {
-                withdrawn: true,
-                ..NOTHING
-            },
-        ),
-        Act::Settle { w, outcome } => (
+        Act::Take { c, place, .. } => at_place(c, place, TAKEN),
+        Act::Admit { c, place } => at_place(c, place, ADMITTED),
+        Act::Drop { c, place, .. } => at_place(c, place, DROPPED),
+        Act::Spurn { c, place, .. } => at_place(c, place, SPURNED),
+        Act::Drain { c, place, .. } => at_place(c, place, DRAINED),
+        Act::Withdraw { w, .. } => Some((w, WITHDRAWN)),
+        Act::Settle { w, outcome } => Some((
             w,
             Facts {
                 received: matches!(outcome, Settled::Value(..)),
                 gave_up: matches!(outcome, Settled::Undelivered(_)),
                 ..NOTHING
             },
-        ),
-        Act::Close { .. } | Act::Void { .. } | Act::WakeClosed { .. } => return None,
-    };
-    Some((at, facts))
+        )),
+        Act::Close { .. } | Act::Void { .. } | Act::WakeClosed { .. } => None,
+    }
 }

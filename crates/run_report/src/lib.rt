@@ -4,6 +4,7 @@
 //! It reads the script for the names and the books for all else, so whoever has the same books gets the same report.
 //!
 //! - `text`: the whole text.
+//! - `gathered`: a text that is put together from pieces.
 //! - `shown`: the parts of a line.
 //! - `job_items`: the acts and notes on Jobs.
 //! - `items`: the items of a book.
@@ -26,6 +27,7 @@ mod elements;
 mod facts;
 mod fates;
 mod fault;
+mod gathered;
 mod items;
 mod job_facts;
 mod job_items;

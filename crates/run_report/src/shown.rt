@@ -1,106 +1,92 @@
-//! The parts of a line, as they are printed.
+//! The parts of a line.
 
-ghost use Rattle.std.specs.Prelude.{map, Some};
+ghost use Rattle.std.specs.Prelude.{◌≡◌, ◌++◌, map};
+ghost use Rattle.std.specs.Fmt.{decimal};
+ghost use lib.Chars.{codes};
 ghost use Rattle.script_reader.specs.Programs.{declared_of};
+ghost use Rattle.run_report.specs.Gatherings.{Adds};
 ghost use Rattle.run_report.specs.Texts.{channel_text, place_text, settled_text, wait_text, why_text};
 
+use crate::gathered::Gathered;
 use channel_model::{Settled, Why};
 use co_base::{ChannelId, Place, WaitId};
 use script_reader::Channel;
-use std::fmt;
 
-/// A channel, by its name, or a done channel by its row.
-#[derive(Clone, Copy)]
-pub(crate) struct ShownChannel<'a> {
-    pub(crate) channels: &'a [Channel],
-    pub(crate) c: ChannelId,
-}
-
-impl fmt::Display for ShownChannel<'_> {
-    ghost output = { λ s. Some (channel_text (map declared_of s.channels.now) s.c) };
-
-    fn fmt<W: fmt::Write>(&self, f: &mut fmt::Formatter<W>) -> fmt::Result {
-        let c = self.c as usize;
-        if c < self.channels.len() {
-            let name = self.channels[c].name.as_str();
-            write!(f, "{name}")
-        } else {
-            let row = c - self.channels.len();
-            write!(f, "@{row}")
-        }
+/// Adds a channel by its name, or a done channel by its row.
+pub(crate) fn add_channel(text: &mut Gathered, channels: &[Channel], c: ChannelId)
+    ensures { Adds text.old text.new (channel_text (map declared_of channels.now) c) }
+{
+    let c = c as usize;
+    if c < channels.len() {
+        text.add(channels[c].name.as_str());
+    } else {
+        add_row(text, c - channels.len());
     }
 }
 
-/// A channel and a place of it.
-#[derive(Clone, Copy)]
-pub(crate) struct ShownPlace<'a> {
-    pub(crate) channels: &'a [Channel],
-    pub(crate) c: ChannelId,
-    pub(crate) place: Place,
+/// Adds the row of a done channel.
+fn add_row(text: &mut Gathered, row: usize)
+    ensures { Adds text.old text.new (codes "@" ++ decimal row) }
+{
+    text.add("@");
+    text.add_index(row);
 }
 
-impl fmt::Display for ShownPlace<'_> {
-    ghost output = { λ s. Some (place_text (map declared_of s.channels.now) s.c s.place) };
+/// Adds a channel and a place of it.
+pub(crate) fn add_place(text: &mut Gathered, channels: &[Channel], c: ChannelId, place: Place)
+    ensures { Adds text.old text.new (place_text (map declared_of channels.now) c place) }
+{
+    add_channel(text, channels, c);
+    text.add(" ");
+    text.add_number(place as u64);
+}
 
-    fn fmt<W: fmt::Write>(&self, f: &mut fmt::Formatter<W>) -> fmt::Result {
-        let channel = ShownChannel {
-            channels: self.channels,
-            c: self.c,
-        };
-        let place = self.place;
-        write!(f, "{channel} {place}")
+/// Adds a wait.
+pub(crate) fn add_wait(text: &mut Gathered, channels: &[Channel], w: WaitId)
+    ensures { Adds text.old text.new (wait_text (map declared_of channels.now) w) }
+{
+    add_channel(text, channels, w.channel);
+    text.add(".");
+    text.add_number(w.place as u64);
+}
+
+/// The word for why a wait was withdrawn.
+pub(crate) fn why_word(why: Why) -> &'static str
+    ensures { result.now ≡ why_text why }
+{
+    match why {
+        Why::Cancelled => "cancelled",
+        Why::Revoked => "revoked",
     }
 }
 
-/// A wait.
-#[derive(Clone, Copy)]
-pub(crate) struct ShownWait<'a> {
-    pub(crate) channels: &'a [Channel],
-    pub(crate) w: WaitId,
+/// Adds a word and a number.
+pub(crate) fn add_counted(text: &mut Gathered, word: &str, number: u64)
+    ensures { Adds text.old text.new (word.now ++ decimal number) }
+{
+    text.add(word);
+    text.add_number(number);
 }
 
-impl fmt::Display for ShownWait<'_> {
-    ghost output = { λ s. Some (wait_text (map declared_of s.channels.now) s.w) };
-
-    fn fmt<W: fmt::Write>(&self, f: &mut fmt::Formatter<W>) -> fmt::Result {
-        let channel = ShownChannel {
-            channels: self.channels,
-            c: self.w.channel,
-        };
-        let place = self.w.place;
-        write!(f, "{channel}.{place}")
-    }
+/// Adds a word and two numbers.
+pub(crate) fn add_pair(text: &mut Gathered, word: &str, first: u64, second: u64)
+    ensures { Adds text.old text.new (word.now ++ decimal first ++ codes " " ++ decimal second) }
+{
+    text.add(word);
+    text.add_number(first);
+    text.add(" ");
+    text.add_number(second);
 }
 
-/// Why a wait was withdrawn.
-#[derive(Clone, Copy)]
-pub(crate) struct ShownWhy(pub(crate) Why);
-
-impl fmt::Display for ShownWhy {
-    ghost output = { λ s. Some (why_text s.0) };
-
-    fn fmt<W: fmt::Write>(&self, f: &mut fmt::Formatter<W>) -> fmt::Result {
-        match self.0 {
-            Why::Cancelled => write!(f, "cancelled"),
-            Why::Revoked => write!(f, "revoked"),
-        }
-    }
-}
-
-/// How a wait ended.
-#[derive(Clone, Copy)]
-pub(crate) struct ShownSettled(pub(crate) Settled);
-
-impl fmt::Display for ShownSettled {
-    ghost output = { λ s. Some (settled_text s.0) };
-
-    fn fmt<W: fmt::Write>(&self, f: &mut fmt::Formatter<W>) -> fmt::Result {
-        match self.0 {
-            Settled::Value(clause, value) => write!(f, "value {clause} {value}"),
-            Settled::Sent(clause) => write!(f, "sent {clause}"),
-            Settled::Closed(clause, v) => write!(f, "closed {clause} {v}"),
-            Settled::Cancelled => write!(f, "cancelled"),
-            Settled::Undelivered(value) => write!(f, "undelivered {value}"),
-        }
+/// Adds how a wait ended.
+pub(crate) fn add_settled(text: &mut Gathered, outcome: Settled)
+    ensures { Adds text.old text.new (settled_text outcome) }
+{
+    match outcome {
+        Settled::Value(clause, value) => add_pair(text, "value ", clause as u64, value as u64),
+        Settled::Sent(clause) => add_counted(text, "sent ", clause as u64),
+        Settled::Closed(clause, v) => add_pair(text, "closed ", clause as u64, v as u64),
+        Settled::Cancelled => text.add("cancelled"),
+        Settled::Undelivered(value) => add_counted(text, "undelivered ", value as u64),
     }
 }

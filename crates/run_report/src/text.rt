@@ -1,15 +1,18 @@
 //! The whole report.
 
-ghost use Rattle.std.specs.Prelude.{◌≡◌, ◌<◌, length, map, IfOk, string_bytes};
+ghost use Rattle.std.specs.Prelude.{◌≡◌, ◌<◌, ◌++◌, length, map, IfOk, string_bytes};
 ghost use Rattle.note_book.specs.Books.{notes_of};
 ghost use Rattle.script_reader.specs.Scripts.{program_of};
 ghost use Rattle.script_reader.specs.Programs.{declared_of};
+ghost use Rattle.run_report.specs.Jobs.{job_acts_noted, jobs_text};
 ghost use Rattle.run_report.specs.Elements.{report_of, report_text, ends_text, elements_text, element_of, channel_acts_noted};
 
-use crate::books::push_books;
+use crate::books::add_books;
 use crate::elements::push_elements;
 use crate::fates::Known;
-use crate::job_lines::push_jobs;
+use crate::gathered::Gathered;
+use crate::job_facts::job_facts_in;
+use crate::job_lines::add_jobs;
 use co_base::Memory;
 use note_book::Notes;
 use poll_states::Done;
@@ -41,23 +44,34 @@ pub fn report_of(
     requires { length channels.now < 65536 }
     ensures { IfOk result (λ text. string_bytes text ≡ report_of (map declared_of channels.now) jobs (map notes_of books.now)) }
 {
+    let ends = ends(alloc, channels, jobs, books)?;
+    let mut text = Gathered::with_capacity(alloc, about_len(books))?;
+    add_books(&mut text, channels, books);
+    text.add(ends.as_str());
+    let report = text.whole()?;
+    Ok(report)
+}
+
+/// The lines behind those of the books.
+fn ends(alloc: Global, channels: &[Channel], jobs: u16, books: &[Notes]) -> Result<String, Memory>
+    requires { length channels.now < 65536 }
+    ensures { IfOk result (λ text. string_bytes text ≡ jobs_text jobs (job_acts_noted (map notes_of books.now))
+        ++ elements_text (element_of (channel_acts_noted (map notes_of books.now))) 0 (map declared_of channels.now)) }
+{
     let elements = elements_of(alloc, channels, books)?;
-    let mut out = String::with_capacity(alloc, about_len(books))?;
-    push_books(&mut out, channels, books)?;
-    push_jobs(alloc, &mut out, jobs, books)?;
-    out.push_str(elements.as_str())?;
-    Ok(out)
+    let table = job_facts_in(alloc, jobs, books)?;
+    let mut text = Gathered::with_capacity(alloc, elements.len())?;
+    add_jobs(&mut text, table.as_slice());
+    text.add(elements.as_str());
+    let lines = text.whole()?;
+    Ok(lines)
 }
 
 /// The end of the report of a run with these books: a line for each Job, and a line for each element that was not received.
 pub fn ends_of(alloc: Global, script: &Script, books: &[Notes]) -> Result<String, Memory>
     ensures { IfOk result (λ text. string_bytes text ≡ ends_text (program_of script.now) (map notes_of books.now)) }
 {
-    let elements = elements_of(alloc, script.channels(), books)?;
-    let mut out = String::new(alloc);
-    push_jobs(alloc, &mut out, script.jobs(), books)?;
-    out.push_str(elements.as_str())?;
-    Ok(out)
+    ends(alloc, script.channels(), script.jobs(), books)
 }
 
 /// About how many bytes a line of a book has.

@@ -6,10 +6,12 @@ ghost use Rattle.note_book.specs.Books.{notes_of};
 ghost use Rattle.script_reader.specs.Scripts.{program_of};
 ghost use Rattle.script_reader.specs.Programs.{declared_of};
 ghost use Rattle.run_report.specs.JobFacts.{facts_at};
+ghost use Rattle.run_report.specs.Gatherings.{Adds};
 ghost use Rattle.run_report.specs.Summaries.{element_counts_text, first_counts_text, second_counts_text, job_counts_text, result_text, summary_line, summary_of, summary_text};
 
 use crate::counts::{ElementCounts, JobCounts, count_elements, count_jobs};
 use crate::fates::Known;
+use crate::gathered::Gathered;
 use crate::job_facts::{JobFacts, job_facts_in};
 use co_base::Memory;
 use job_model::End;
@@ -79,75 +81,68 @@ fn line(
 ) -> Result<String, AllocError>
     ensures { IfOk result (λ text. string_bytes text ≡ summary_line version jobs elements root) }
 {
-    let mut out = String::new(alloc);
-    push_job_counts(&mut out, jobs)?;
-    push_element_counts(&mut out, version, elements)?;
+    let mut text = Gathered::with_capacity(alloc, 0)?;
+    add_job_counts(&mut text, jobs);
+    add_element_counts(&mut text, version, elements);
+    let mut out = text.whole()?;
     push_result(&mut out, root)?;
     Ok(out)
 }
 
-fn push_job_counts(out: &mut String, jobs: JobCounts) -> Result<(), AllocError>
-    ensures { OnOk result (string_bytes out.new ≡ string_bytes out.old ++ job_counts_text jobs) }
+fn add_job_counts(text: &mut Gathered, jobs: JobCounts)
+    ensures { Adds text.old text.new (job_counts_text jobs) }
 {
-    let JobCounts {
-        attached,
-        completed,
-        cancelled,
-    } = jobs;
-    write!(
-        out,
-        "jobs {attached} completed {completed} cancelled {cancelled} "
-    )
+    text.add("jobs ");
+    text.add_number(jobs.attached as u64);
+    text.add(" completed ");
+    text.add_number(jobs.completed as u64);
+    text.add(" cancelled ");
+    text.add_number(jobs.cancelled as u64);
+    text.add(" ");
 }
 
-fn push_element_counts(
-    out: &mut String,
-    version: u8,
-    elements: ElementCounts,
-) -> Result<(), AllocError>
-    ensures { OnOk result (string_bytes out.new ≡ string_bytes out.old ++ element_counts_text version elements) }
+fn add_element_counts(text: &mut Gathered, version: u8, elements: ElementCounts)
+    ensures { Adds text.old text.new (element_counts_text version elements) }
 {
     if version == 2 {
-        push_second_counts(out, elements)
+        add_second_counts(text, elements)
     } else {
-        push_first_counts(out, elements)
+        add_first_counts(text, elements)
     }
 }
 
-fn push_second_counts(out: &mut String, elements: ElementCounts) -> Result<(), AllocError>
-    ensures { OnOk result (string_bytes out.new ≡ string_bytes out.old ++ second_counts_text elements) }
+fn add_second_counts(text: &mut Gathered, elements: ElementCounts)
+    ensures { Adds text.old text.new (second_counts_text elements) }
 {
-    let ElementCounts {
-        received,
-        undelivered,
-        dropped,
-        spurned,
-        withdrawn,
-        held,
-    } = elements;
-    write!(
-        out,
-        "received {received} undelivered {undelivered} dropped {dropped} spurned {spurned} "
-    )?;
-    write!(out, "withdrawn {withdrawn} held {held} ")?;
-    Ok(())
+    text.add("received ");
+    text.add_number(elements.received);
+    text.add(" undelivered ");
+    text.add_number(elements.undelivered);
+    text.add(" dropped ");
+    text.add_number(elements.dropped);
+    text.add(" spurned ");
+    text.add_number(elements.spurned);
+    text.add(" withdrawn ");
+    text.add_number(elements.withdrawn);
+    text.add(" held ");
+    text.add_number(elements.held);
+    text.add(" ");
 }
 
-fn push_first_counts(out: &mut String, elements: ElementCounts) -> Result<(), AllocError>
-    ensures { OnOk result (string_bytes out.new ≡ string_bytes out.old ++ first_counts_text elements) }
+fn add_first_counts(text: &mut Gathered, elements: ElementCounts)
+    ensures { Adds text.old text.new (first_counts_text elements) }
 {
-    let ElementCounts {
-        received,
-        undelivered,
-        dropped,
-        spurned: _,
-        withdrawn,
-        held,
-    } = elements;
-    write!(
-        out,
-        "received {received} undelivered {undelivered} dropped {dropped} withdrawn {withdrawn} held {held} "
-    )
+    text.add("received ");
+    text.add_number(elements.received);
+    text.add(" undelivered ");
+    text.add_number(elements.undelivered);
+    text.add(" dropped ");
+    text.add_number(elements.dropped);
+    text.add(" withdrawn ");
+    text.add_number(elements.withdrawn);
+    text.add(" held ");
+    text.add_number(elements.held);
+    text.add(" ");
 }
 
 /// Writes the last part of a summary: the root's result, and the end of the line.

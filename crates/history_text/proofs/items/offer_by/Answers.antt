@@ -5,5 +5,5 @@ use Rattle.history_text.proofs.items.offer_by.Goals as goal
 pub returns-in_default : goal.returns-in_default
 returns-in_default c = offer_few (listed c.args.names.now) c.args.words.now c.in_default.len_below
 
-pub returns-in_default-2 : goal.returns-in_default-2
-returns-in_default-2 c = offer_many (listed c.args.names.now) c.args.words.now c.in_default.len_at_least
+pub returns-in_default-3 : goal.returns-in_default-3
+returns-in_default-3 c = offer_many (listed c.args.names.now) c.args.words.now c.in_default.len_at_least

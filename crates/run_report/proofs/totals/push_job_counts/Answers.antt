@@ -1,4 +1,0 @@
-use Rattle.run_report.proofs.totals.push_job_counts.Goals as goal
-
-pub returns : goal.returns
-returns c = c.write.ensures.bytes
