@@ -1,8 +1,9 @@
 //! What was found of states before their turn: where a run is at a state that is new, its first poll is made at once.
 
-use co_base::{Memory, Tag};
+use co_base::Tag;
+use gathered::{Gathered, at, between};
 use std::alloc::Global;
-use std::mem::replace;
+use std::mem::swap;
 
 /// Of so many states it is kept, at most.
 const MOST: usize = 131072;
@@ -40,30 +41,17 @@ impl<'a> Ahead<'a> {
 
     /// The key of the state that its poll leads to.
     pub(crate) fn first_key(self) -> &'a [u64] {
-        let words = self.first_words();
-        match self.keys.get(0..words) {
-            Some(key) => key,
-            None => &[],
-        }
+        between(self.keys, 0, self.first_words())
     }
 
     /// What was found of the states behind it.
     pub(crate) fn rest(self) -> &'a [Found] {
-        let count = self.found.len();
-        match self.found.get(1..count) {
-            Some(found) => found,
-            None => &[],
-        }
+        between(self.found, 1, self.found.len())
     }
 
     /// The keys of the states that those polls lead to.
     pub(crate) fn rest_keys(self) -> &'a [u64] {
-        let from = self.first_words();
-        let count = self.keys.len();
-        match self.keys.get(from..count) {
-            Some(keys) => keys,
-            None => &[],
-        }
+        between(self.keys, self.first_words(), self.keys.len())
     }
 
     fn first_words(self) -> usize {
@@ -77,9 +65,9 @@ impl<'a> Ahead<'a> {
 /// Those of some states, in the order of the states, one behind another.
 #[derive(Drop)]
 struct Row {
-    entries: Vec<Entry>,
-    found: Vec<Found>,
-    keys: Vec<u64>,
+    entries: Gathered<Entry>,
+    found: Gathered<Found>,
+    keys: Gathered<u64>,
 }
 
 /// Of which state, and where what was found of it ends, and where the keys do.
@@ -90,24 +78,30 @@ struct Entry {
     keys_end: usize,
 }
 
+/// What stands before the first entry: no state has this number.
+const NO_ENTRY: Entry = Entry {
+    state: u32::MAX,
+    found_end: 0,
+    keys_end: 0,
+};
+
 impl Row {
     fn new(alloc: Global) -> Row {
         Row {
-            entries: Vec::new(alloc),
-            found: Vec::new(alloc),
-            keys: Vec::new(alloc),
+            entries: Gathered::new(alloc),
+            found: Gathered::new(alloc),
+            keys: Gathered::new(alloc),
         }
     }
 
-    fn add(&mut self, state: u32, found: &[Found], keys: &[u64]) -> Result<(), Memory> {
-        self.found.extend_from_slice(found)?;
-        self.keys.extend_from_slice(keys)?;
-        self.entries.push(Entry {
+    fn add(&mut self, state: u32, found: &[Found], keys: &[u64]) {
+        self.found.add_all(found);
+        self.keys.add_all(keys);
+        self.entries.add(Entry {
             state,
             found_end: self.found.len(),
             keys_end: self.keys.len(),
-        })?;
-        Ok(())
+        });
     }
 
     fn clear(&mut self) {
@@ -116,9 +110,17 @@ impl Row {
         self.keys.clear();
     }
 
+    fn is_whole(&self) -> bool {
+        self.entries.is_whole() && self.found.is_whole() && self.keys.is_whole()
+    }
+
+    fn entry(&self, place: usize) -> Entry {
+        at(self.entries.as_slice(), place, NO_ENTRY)
+    }
+
     /// Whether all are of states below this one.
     fn is_below(&self, state: u32) -> bool {
-        match self.entries.last() {
+        match self.entries.as_slice().last() {
             Some(last) => last.state < state,
             None => true,
         }
@@ -127,20 +129,14 @@ impl Row {
     /// That of a state, if it is there.
     fn of(&self, state: u32) -> Option<Ahead<'_>> {
         let place = self.place_of(state);
-        let entry = self.entries.get(place)?;
+        let entry = self.entry(place);
+        let before = self.entry(place.wrapping_sub(1));
         if entry.state != state {
             return None;
         }
-        let (found_from, keys_from) = match place.checked_sub(1) {
-            Some(before) => match self.entries.get(before) {
-                Some(last) => (last.found_end, last.keys_end),
-                None => (0, 0),
-            },
-            None => (0, 0),
-        };
         Some(Ahead {
-            found: self.found.get(found_from..entry.found_end)?,
-            keys: self.keys.get(keys_from..entry.keys_end)?,
+            found: between(self.found.as_slice(), before.found_end, entry.found_end),
+            keys: between(self.keys.as_slice(), before.keys_end, entry.keys_end),
         })
     }
 
@@ -149,17 +145,14 @@ impl Row {
         let mut from = 0usize;
         let mut to = self.entries.len();
         for _ in 0..64 {
-            let half = to.saturating_sub(from) / 2;
-            let middle = from.saturating_add(half);
-            match self.entries.get(middle) {
-                Some(entry) if middle < to => {
-                    if entry.state < state {
-                        from = middle.saturating_add(1);
-                    } else {
-                        to = middle;
-                    }
-                }
-                _ => return from,
+            if from >= to {
+                break;
+            }
+            let middle = from.saturating_add(to.saturating_sub(from) / 2);
+            if self.entry(middle).state < state {
+                from = middle.saturating_add(1);
+            } else {
+                to = middle;
             }
         }
         from
@@ -182,23 +175,23 @@ impl Aheads {
     }
 
     /// Keeps what was found of the last state and of those behind it, if anything was, unless there is enough.
-    pub(crate) fn keep(&mut self, state: u32, found: &[Found], keys: &[u64]) -> Result<(), Memory> {
-        let count = self
-            .earlier
-            .entries
-            .len()
-            .saturating_add(self.later.entries.len());
+    pub(crate) fn keep(&mut self, state: u32, found: &[Found], keys: &[u64]) {
+        let earlier = self.earlier.entries.len();
+        let count = earlier.saturating_add(self.later.entries.len());
         if count < MOST && !found.is_empty() {
-            self.later.add(state, found, keys)?;
+            self.later.add(state, found, keys);
         }
-        Ok(())
+    }
+
+    /// Whether memory held all that was kept.
+    pub(crate) fn is_whole(&self) -> bool {
+        self.earlier.is_whole() && self.later.is_whole()
     }
 
     /// Those of states below this one are not needed any more.
-    pub(crate) fn leave_behind(&mut self, alloc: Global, state: u32) {
+    pub(crate) fn leave_behind(&mut self, state: u32) {
         if self.earlier.is_below(state) {
-            let later = replace(&mut self.later, Row::new(alloc));
-            self.later = replace(&mut self.earlier, later);
+            swap(&mut self.earlier, &mut self.later);
             self.later.clear();
         }
     }

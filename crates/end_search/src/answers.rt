@@ -261,27 +261,30 @@ fn rest_of(
 /// Adds which coroutine repeats lines so often that its states are too many, if one does.
 fn push_reason(out: &mut String, script: &Script) -> Result<(), AllocError> {
     let mut most = MANY_TURNS;
-    let mut place = None;
-    for (i, block) in script.blocks().iter().enumerate() {
-        for line in block.code.as_slice() {
-            if let Instruction::Repeat { turns } = *line {
-                if turns > most {
-                    most = turns;
-                    place = Some(i);
-                }
-            }
+    let mut name = "";
+    for block in script.blocks() {
+        let turns = most_turns(block.code.as_slice());
+        if turns > most {
+            most = turns;
+            name = block.name.as_str();
         }
     }
-    let Some(i) = place else {
-        return Ok(());
-    };
-    match script.blocks().get(i) {
-        Some(block) => {
-            let name = block.name.as_str();
-            write!(out, "{name} repeats lines {most} times; ")
-        }
-        None => Ok(()),
+    if most > MANY_TURNS {
+        write!(out, "{name} repeats lines {most} times; ")
+    } else {
+        Ok(())
     }
+}
+
+/// The most turns of a repeat of a block.
+fn most_turns(code: &[Instruction]) -> u32 {
+    let mut most = 0u32;
+    for line in code {
+        if let Instruction::Repeat { turns } = *line {
+            most = most.max(turns);
+        }
+    }
+    most
 }
 
 /// The report of the end with this number, counted from 1, of those that are looked for, if there is one. Says how far it is, as

@@ -5,6 +5,7 @@
 
 use crate::states::hash_of;
 use co_base::{Memory, Tag};
+use gathered::{Gathered, at, between, put};
 use std::alloc::Global;
 
 /// How many places the tables have. They are powers of two.
@@ -36,16 +37,29 @@ pub(crate) struct Effect {
     next: u32,
 }
 
+/// What is known, if nothing is: of no coroutine.
+const NO_EFFECT: Effect = Effect {
+    tag: Tag::MAX,
+    moved: false,
+    local: false,
+    start: 0,
+    end: 0,
+    next: 0,
+};
+
+/// The number of a content for which there is no room.
+pub(crate) const NO_ROOM: u32 = u32::MAX;
+
 /// The contents of sections, each with a number of its own, and what polls did.
 #[derive(Drop)]
 pub(crate) struct Effects {
-    numbers: Vec<u64>,
+    numbers: Gathered<u64>,
     /// For each content, where it ends.
-    ends: Vec<usize>,
+    ends: Gathered<usize>,
     /// At the place that a hash of a content names, or the next free one, the number behind its own.
     seats: Vec<u32>,
-    effects: Vec<Effect>,
-    changes: Vec<Change>,
+    effects: Gathered<Effect>,
+    changes: Gathered<Change>,
     /// At the place that a hash of a coroutine, its section and the Jobs names, the number behind that of the last effect.
     heads: Vec<u32>,
 }
@@ -53,11 +67,11 @@ pub(crate) struct Effects {
 impl Effects {
     pub(crate) fn new(alloc: Global) -> Effects {
         Effects {
-            numbers: Vec::new(alloc),
-            ends: Vec::new(alloc),
+            numbers: Gathered::new(alloc),
+            ends: Gathered::new(alloc),
             seats: Vec::new(alloc),
-            effects: Vec::new(alloc),
-            changes: Vec::new(alloc),
+            effects: Gathered::new(alloc),
+            changes: Gathered::new(alloc),
             heads: Vec::new(alloc),
         }
     }
@@ -79,55 +93,58 @@ impl Effects {
         Ok(())
     }
 
+    /// Whether memory held all that was kept.
+    pub(crate) fn is_whole(&self) -> bool {
+        let contents = self.numbers.is_whole() && self.ends.is_whole();
+        contents && self.effects.is_whole() && self.changes.is_whole()
+    }
+
     /// A content.
     pub(crate) fn content(&self, number: u32) -> &[u64] {
         let place = number as usize;
-        let start = match place.checked_sub(1) {
-            Some(before) => self.ends.get(before).copied().unwrap_or(0),
-            None => 0,
-        };
-        let end = self.ends.get(place).copied().unwrap_or(0);
-        self.numbers.get(start..end).unwrap_or(&[])
+        let ends = self.ends.as_slice();
+        let start = at(ends, place.wrapping_sub(1), 0);
+        between(self.numbers.as_slice(), start, at(ends, place, 0))
     }
 
-    /// The number of a content, which is kept. Nothing, if there is no room.
-    pub(crate) fn number_of(&mut self, content: &[u64]) -> Result<Option<u32>, Memory> {
+    /// The number of a content, which is kept; `NO_ROOM`, if there is none.
+    pub(crate) fn number_of(&mut self, content: &[u64]) -> u32 {
         let mask = self.seats.len().saturating_sub(1);
         let mut place = hash_of(content) as usize & mask;
         for _ in 0..self.seats.len() {
-            let seat = self.seats.get(place).copied().unwrap_or(0);
-            let Some(number) = seat.checked_sub(1) else {
+            let seat = at(self.seats.as_slice(), place, 0);
+            if seat == 0 {
                 return self.add_content(place, content);
-            };
+            }
+            let number = seat.saturating_sub(1);
             if self.content(number) == content {
-                return Ok(Some(number));
+                return number;
             }
             place = place.wrapping_add(1) & mask;
         }
-        Ok(None)
+        NO_ROOM
     }
 
-    fn add_content(&mut self, place: usize, content: &[u64]) -> Result<Option<u32>, Memory> {
-        let Some(number) = u32::try_from(self.ends.len()).ok() else {
-            return Ok(None);
-        };
-        self.numbers.extend_from_slice(content)?;
-        self.ends.push(self.numbers.len())?;
-        if let Some(here) = self.seats.get_mut(place) {
-            *here = number.saturating_add(1);
-        }
-        Ok(Some(number))
+    fn add_content(&mut self, place: usize, content: &[u64]) -> u32 {
+        let number = u32::try_from(self.ends.len()).unwrap_or(NO_ROOM);
+        self.numbers.add_all(content);
+        self.ends.add(self.numbers.len());
+        put(&mut self.seats, place, number.saturating_add(1));
+        number
     }
 
     /// What a poll of this coroutine does where the contents of the sections are these, if it is known. Those of its own section and of the
     /// Jobs are told beside.
     pub(crate) fn find(&self, sections: &[u32], tag: Tag, seen: (u32, u32)) -> Option<Effect> {
-        let mut next = self.heads.get(head_of(tag, seen)).copied().unwrap_or(0);
+        let mut next = at(self.heads.as_slice(), head_of(tag, seen), 0);
         for _ in 0..COMPARED {
-            let number = next.checked_sub(1)?;
-            let effect = self.effects.get(number as usize)?;
-            if effect.tag == tag && are_before(self.changes_of(*effect), sections) {
-                return Some(*effect);
+            if next == 0 {
+                break;
+            }
+            let place = (next as usize).saturating_sub(1);
+            let effect = at(self.effects.as_slice(), place, NO_EFFECT);
+            if effect.tag == tag && are_before(self.changes_of(effect), sections) {
+                return Some(effect);
             }
             next = effect.next;
         }
@@ -136,7 +153,7 @@ impl Effects {
 
     /// The sections that a poll looked at.
     pub(crate) fn changes_of(&self, effect: Effect) -> &[Change] {
-        self.changes.get(effect.start..effect.end).unwrap_or(&[])
+        between(self.changes.as_slice(), effect.start, effect.end)
     }
 
     /// Keeps what a poll did: these are the sections that it looked at.
@@ -146,33 +163,29 @@ impl Effects {
         seen: (u32, u32),
         did: (bool, bool),
         changes: &[Change],
-    ) -> Result<(), Memory> {
+    ) {
         let start = self.changes.len();
-        self.changes.extend_from_slice(changes)?;
+        self.changes.add_all(changes);
         let (moved, local) = did;
         let place = head_of(tag, seen);
-        self.effects.push(Effect {
+        self.effects.add(Effect {
             tag,
             moved,
             local,
             start,
             end: self.changes.len(),
-            next: self.heads.get(place).copied().unwrap_or(0),
-        })?;
-        let number = u32::try_from(self.effects.len()).ok().unwrap_or(0);
-        if let Some(here) = self.heads.get_mut(place) {
-            *here = number;
-        }
-        Ok(())
+            next: at(self.heads.as_slice(), place, 0),
+        });
+        let number = u32::try_from(self.effects.len()).unwrap_or(0);
+        put(&mut self.heads, place, number);
     }
 }
 
 /// Whether the contents of these sections are those before.
 fn are_before(changes: &[Change], sections: &[u32]) -> bool {
     for change in changes {
-        match sections.get(change.place) {
-            Some(number) if *number == change.before => {}
-            _ => return false,
+        if at(sections, change.place, NO_ROOM) != change.before {
+            return false;
         }
     }
     true

@@ -2,8 +2,10 @@
 
 use crate::losses::read_losses;
 use crate::reads::reads_of;
+use crate::whole::if_whole;
 use co_base::Memory;
 use engine_one::Trial;
+use gathered::{Gathered, at, between, put};
 use note_book::Notes;
 use script_reader::Script;
 use std::alloc::Global;
@@ -16,11 +18,11 @@ pub(crate) struct Keys {
     /// Whether losses are told apart.
     losses: bool,
     /// What the last key was made of, from its start on, and the key.
-    numbers: Vec<u64>,
+    numbers: Gathered<u64>,
     start: usize,
-    middle: Vec<u64>,
-    large: Vec<u64>,
-    words: Vec<u64>,
+    middle: Gathered<u64>,
+    large: Gathered<u64>,
+    words: Gathered<u64>,
 }
 
 impl Keys {
@@ -28,11 +30,11 @@ impl Keys {
         Ok(Keys {
             reads: reads_of(alloc, script)?,
             losses,
-            numbers: Vec::new(alloc),
+            numbers: Gathered::new(alloc),
             start: 0,
-            middle: Vec::new(alloc),
-            large: Vec::new(alloc),
-            words: Vec::new(alloc),
+            middle: Gathered::new(alloc),
+            large: Gathered::new(alloc),
+            words: Gathered::new(alloc),
         })
     }
 
@@ -43,10 +45,10 @@ impl Keys {
     /// where ends are told with them.
     pub(crate) fn make(&mut self, trial: &Trial<Notes>) -> Result<(), Memory> {
         self.begin();
-        trial.push_key(self.reads.as_slice(), &mut self.numbers)?;
+        trial.push_key(self.reads.as_slice(), self.numbers.as_mut())?;
         if self.losses {
             read_losses(&mut self.large, trial, self.reads.len())?;
-            self.numbers.extend_from_slice(self.large.as_slice())?;
+            self.numbers.add_all(self.large.as_slice());
         }
         self.pack()
     }
@@ -58,8 +60,7 @@ impl Keys {
 
     /// The numbers of the key that was made or read last.
     pub(crate) fn numbers(&self) -> &[u64] {
-        let count = self.numbers.len();
-        self.numbers.get(self.start..count).unwrap_or(&[])
+        between(self.numbers.as_slice(), self.start, self.numbers.len())
     }
 
     /// Begins another key.
@@ -69,26 +70,22 @@ impl Keys {
     }
 
     /// Adds numbers to the key that was begun.
-    pub(crate) fn push(&mut self, numbers: &[u64]) -> Result<(), Memory> {
-        self.numbers.extend_from_slice(numbers)?;
-        Ok(())
+    pub(crate) fn add(&mut self, numbers: &[u64]) {
+        self.numbers.add_all(numbers);
     }
 
     /// Reads the numbers of a key.
     pub(crate) fn read(&mut self, key: &[u64]) -> Result<(), Memory> {
-        let count = match key.first() {
-            Some(word) => (*word >> 32) as usize,
-            None => 0,
-        };
+        let count = (at(key, 0, 0) >> 32) as usize;
         let small = small_words(count);
         self.begin();
         self.start = 8;
-        for word in key.get(0..small).unwrap_or(&[]) {
-            push_halves(&mut self.numbers, *word)?;
+        for word in between(key, 0, small) {
+            add_halves(&mut self.numbers, *word);
         }
         self.numbers.truncate(count.saturating_add(8));
-        put_middle(&mut self.numbers, key, small);
-        Ok(())
+        put_middle(self.numbers.as_mut(), key, small);
+        if_whole(self.numbers.is_whole())
     }
 
     /// Makes words of the numbers. The first half of a word tells how many there are. Eight small ones are in each half that follows;
@@ -98,58 +95,67 @@ impl Keys {
         self.words.clear();
         self.middle.clear();
         self.large.clear();
-        pack_small(self.numbers.as_slice(), &mut self.words, &mut self.middle)?;
-        self.pack_middle()
-    }
-
-    /// Adds words for the numbers that are not small.
-    fn pack_middle(&mut self) -> Result<(), Memory> {
-        let mut rest = self.middle.as_slice();
-        for _ in 0..self.middle.len().div_ceil(8) {
-            let mut word = 0u64;
-            for place in 0..8usize {
-                let mut byte = rest.get(place).copied().unwrap_or(0);
-                if byte > 254 {
-                    self.large.push(byte)?;
-                    byte = 255;
-                }
-                word = word.wrapping_mul(256) | byte;
-            }
-            self.words.push(word)?;
-            let count = rest.len();
-            rest = rest.get(8..count).unwrap_or(&[]);
-        }
-        self.words.extend_from_slice(self.large.as_slice())?;
-        Ok(())
+        pack_small(self.numbers.as_slice(), &mut self.words, &mut self.middle);
+        pack_middle(self.middle.as_slice(), &mut self.words, &mut self.large);
+        self.words.add_all(self.large.as_slice());
+        let numbers = self.numbers.is_whole() && self.words.is_whole();
+        if_whole(numbers && self.middle.is_whole() && self.large.is_whole())
     }
 }
 
 /// Adds words for these numbers, of which the first tells how many there are; those that are not small are added to these, too.
-fn pack_small(numbers: &[u64], words: &mut Vec<u64>, middle: &mut Vec<u64>) -> Result<(), Memory> {
+fn pack_small(numbers: &[u64], words: &mut Gathered<u64>, middle: &mut Gathered<u64>) {
     let mut word = numbers.len() as u64;
     let mut is_half = true;
     let mut rest = numbers;
     while let [a, b, c, d, e, f, g, h, more @ ..] = rest {
-        let half = eight_of(middle, [*a, *b, *c, *d, *e, *f, *g, *h])?;
-        word = word.wrapping_mul(4294967296) | half;
+        word = word.wrapping_mul(4294967296) | eight_of(middle, [*a, *b, *c, *d, *e, *f, *g, *h]);
         if is_half {
-            words.push(word)?;
+            words.add(word);
             word = 0;
         }
         is_half = !is_half;
         rest = more;
     }
+    let half = few_of(middle, rest);
+    words.add(if is_half {
+        word.wrapping_mul(4294967296) | half
+    } else {
+        half.wrapping_mul(4294967296)
+    });
+}
+
+/// What stands for these numbers one by one: the first eight, or fewer.
+fn few_of(middle: &mut Gathered<u64>, numbers: &[u64]) -> u64 {
     let mut half = 0u64;
     for place in 0..8usize {
-        let number = rest.get(place).copied().unwrap_or(0);
-        half = half.wrapping_mul(16) | small_of(middle, number)?;
+        half = half.wrapping_mul(16) | small_of(middle, at(numbers, place, 0));
     }
-    if is_half {
-        words.push(word.wrapping_mul(4294967296) | half)?;
+    half
+}
+
+/// Adds words for numbers that are not small, of which these are; those that are large are added to these, too.
+fn pack_middle(numbers: &[u64], words: &mut Gathered<u64>, large: &mut Gathered<u64>) {
+    let mut start = 0usize;
+    for _ in 0..numbers.len().div_ceil(8) {
+        let mut word = 0u64;
+        for place in 0..8usize {
+            let number = at(numbers, start.saturating_add(place), 0);
+            word = word.wrapping_mul(256) | byte_of(large, number);
+        }
+        words.add(word);
+        start = start.saturating_add(8);
+    }
+}
+
+/// What stands for a number that is not small: itself; if it is large, a mark, and it is added to those that are.
+fn byte_of(large: &mut Gathered<u64>, number: u64) -> u64 {
+    if number > 254 {
+        large.add(number);
+        255
     } else {
-        words.push(half.wrapping_mul(4294967296))?;
+        number
     }
-    Ok(())
 }
 
 /// How many words there are for so many numbers, without those that are not small.
@@ -158,9 +164,9 @@ fn small_words(count: usize) -> usize {
 }
 
 /// Adds what stands for numbers in a word, sixteen of them.
-fn push_halves(numbers: &mut Vec<u64>, word: u64) -> Result<(), Memory> {
+fn add_halves(numbers: &mut Gathered<u64>, word: u64) {
     let a = word >> 32;
-    numbers.extend_from_slice(&[
+    numbers.add_all(&[
         a >> 28,
         (a >> 24) & 15,
         (a >> 20) & 15,
@@ -177,68 +183,61 @@ fn push_halves(numbers: &mut Vec<u64>, word: u64) -> Result<(), Memory> {
         (word >> 8) & 15,
         (word >> 4) & 15,
         word & 15,
-    ])?;
-    Ok(())
+    ]);
 }
 
 /// Puts the numbers that are not small in place of their marks: their words begin there in a key.
 fn put_middle(numbers: &mut Vec<u64>, key: &[u64], small: usize) {
-    let mut count = 0usize;
-    for i in 8..numbers.len() {
-        if let Some(15) = numbers.get(i) {
-            count = count.saturating_add(1);
-        }
-    }
-    let mut large = small.saturating_add(count.div_ceil(8));
+    let mut large = small.saturating_add(marks_in(numbers.as_slice()).div_ceil(8));
     let mut place = 0usize;
     let mut word = 0u64;
     for i in 8..numbers.len() {
-        let Some(number) = numbers.get_mut(i) else {
-            break;
-        };
-        if *number != 15 {
+        if at(numbers.as_slice(), i, 0) != 15 {
             continue;
         }
         if place % 8 == 0 {
-            word = word_at(key, small.saturating_add(place / 8));
+            word = at(key, small.saturating_add(place / 8), 0);
         }
-        *number = word >> 56;
+        let mut number = word >> 56;
         word = word.wrapping_mul(256);
         place = place.saturating_add(1);
-        if *number == 255 {
-            *number = word_at(key, large);
+        if number == 255 {
+            number = at(key, large, 0);
             large = large.saturating_add(1);
         }
+        put(numbers, i, number);
     }
 }
 
-fn word_at(key: &[u64], place: usize) -> u64 {
-    match key.get(place) {
-        Some(word) => *word,
-        None => 0,
+/// How many of the numbers behind the first eight are marks.
+fn marks_in(numbers: &[u64]) -> usize {
+    let mut count = 0usize;
+    for number in between(numbers, 8, numbers.len()) {
+        if *number == 15 {
+            count = count.saturating_add(1);
+        }
     }
+    count
 }
 
 /// What stands for eight numbers: each that is small; of each other a mark, and it is added to those that are not small.
-fn eight_of(middle: &mut Vec<u64>, eight: [u64; 8]) -> Result<u64, Memory> {
+fn eight_of(middle: &mut Gathered<u64>, eight: [u64; 8]) -> u64 {
     let [a, b, c, d, e, f, g, h] = eight;
     if (a | b | c | d | e | f | g | h) < 15 {
         let front = (a << 12) | (b << 8) | (c << 4) | d;
         let back = (e << 12) | (f << 8) | (g << 4) | h;
-        return Ok((front << 16) | back);
+        (front << 16) | back
+    } else {
+        few_of(middle, &eight)
     }
-    let mut half = 0u64;
-    for number in eight {
-        half = half.wrapping_mul(16) | small_of(middle, number)?;
-    }
-    Ok(half)
 }
 
 /// The same of one.
-fn small_of(middle: &mut Vec<u64>, number: u64) -> Result<u64, Memory> {
+fn small_of(middle: &mut Gathered<u64>, number: u64) -> u64 {
     if number > 14 {
-        middle.push(number)?;
-        return Ok(15);
+        middle.add(number);
+        15
+    } else {
+        number
     }
-    Ok(number)
 }

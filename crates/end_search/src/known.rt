@@ -5,15 +5,17 @@ ghost use Rattle.script_reader.specs.Scripts.{program_of};
 ghost use Rattle.engine_one.specs.Trials.{TrialStands};
 
 use crate::aheads::Poll;
-use crate::effects::{Change, Effect, Effects};
+use crate::effects::{Change, Effect, Effects, NO_ROOM};
 use crate::keys::Keys;
 use crate::local::is_local;
 use crate::parts::{Around, Desk, Part};
 use crate::sections::Layout;
 use crate::states::hash_of;
+use crate::whole::if_whole;
 use channel_model::{Act, ChannelNote};
 use co_base::{ChannelId, Gate, Memory, Tag};
 use engine_one::Trial;
+use gathered::{Gathered, at, between, put};
 use note_book::{Item, Notes};
 use script_grammar::Instruction;
 use script_reader::Script;
@@ -47,11 +49,11 @@ pub(crate) struct Known {
     layout: Layout,
     effects: Effects,
     /// The contents of the sections of the state that is looked at.
-    sections: Vec<u32>,
+    sections: Gathered<u32>,
     /// The same behind a poll.
-    behind: Vec<u32>,
-    ends: Vec<usize>,
-    changes: Vec<Change>,
+    behind: Gathered<u32>,
+    ends: Gathered<usize>,
+    changes: Gathered<Change>,
     /// How many polls were known of late, and how many were made.
     known: u32,
     made: u32,
@@ -64,18 +66,18 @@ impl Known {
         Ok(Known {
             layout: Layout::new(alloc, script)?,
             effects: Effects::new(alloc),
-            sections: Vec::new(alloc),
-            behind: Vec::new(alloc),
-            ends: Vec::new(alloc),
-            changes: Vec::new(alloc),
+            sections: Gathered::new(alloc),
+            behind: Gathered::new(alloc),
+            ends: Gathered::new(alloc),
+            changes: Gathered::new(alloc),
             known: 0,
             made: 0,
             left: 0,
         })
     }
 
-    /// Whether to look at the next state by what is known: of the polls of late at least half were known. Where channels have ever new contents
-    /// few are, and to look for them takes longer than to make them.
+    /// Whether to look at the next state by what is known: of the polls of late at least half were known. Where channels have ever new
+    /// contents few are, and to look for them takes longer than to make them.
     pub(crate) fn serves(&mut self) -> bool {
         if self.left > 0 {
             self.left -= 1;
@@ -94,8 +96,15 @@ impl Known {
     /// What stands for the section of a coroutine in the state that is looked at, and for that of the Jobs.
     fn seen_by(&self, tag: Tag) -> (u32, u32) {
         let sections = self.sections.as_slice();
-        let own = section(sections, self.layout.place_of(tag as usize));
-        (own, section(sections, self.layout.channels()))
+        let own = at(sections, self.layout.place_of(tag as usize), 0);
+        (own, at(sections, self.layout.channels(), 0))
+    }
+
+    /// Tells whether memory held all that was kept.
+    pub(crate) fn whole(&self) -> Result<(), Memory> {
+        let states = self.sections.is_whole() && self.behind.is_whole();
+        let kept = self.changes.is_whole() && self.effects.is_whole();
+        if_whole(states && kept && self.ends.is_whole())
     }
 
     /// What a poll of this coroutine does in the state that is looked at, if it is known.
@@ -126,7 +135,7 @@ pub(crate) fn add_by_effects<G: Gate>(
         let Some(poll) = poll_by(alloc, around, gate, desk, tag, &mut there)? else {
             continue;
         };
-        add_poll(around, desk.keys.last(), part, poll)?;
+        add_poll(around, desk.keys.last(), part, poll);
         if poll.local {
             return Ok(true);
         }
@@ -135,12 +144,12 @@ pub(crate) fn add_by_effects<G: Gate>(
 }
 
 /// Adds this poll, which leads to a state with this key; if it suffices, it alone.
-fn add_poll(around: Around, key: &[u64], part: &mut Part, poll: Poll) -> Result<(), Memory> {
+fn add_poll(around: Around, key: &[u64], part: &mut Part, poll: Poll) {
     if poll.local {
         part.take_back();
     }
     let seen = around.states.has(poll.hash, key);
-    part.add(poll, seen, key)
+    part.add(poll, seen, key);
 }
 
 /// The poll of this coroutine in the state that is looked at, if it does something; the key of the state that it leads to is made then.
@@ -174,13 +183,13 @@ fn poll_by<G: Gate>(
 /// Numbers the sections of the state whose key was read last. The answer is no, if there is no room.
 fn read_state(known: &mut Known, keys: &Keys) -> Result<bool, Memory> {
     known.effects.make_room()?;
-    read_sections(
+    Ok(read_sections(
         &known.layout,
         &mut known.effects,
         keys,
         &mut known.ends,
         &mut known.sections,
-    )
+    ))
 }
 
 /// Numbers the sections of the key that was made or read last. The answer is no, if there is no room.
@@ -188,30 +197,23 @@ fn read_sections(
     layout: &Layout,
     effects: &mut Effects,
     keys: &Keys,
-    ends: &mut Vec<usize>,
-    sections: &mut Vec<u32>,
-) -> Result<bool, Memory> {
+    ends: &mut Gathered<usize>,
+    sections: &mut Gathered<u32>,
+) -> bool {
     sections.clear();
     let numbers = keys.numbers();
-    layout.read_ends(numbers, ends)?;
-    ends.push(numbers.len())?;
+    layout.read_ends(numbers, ends);
+    ends.add(numbers.len());
     let mut from = 0usize;
     for end in ends.as_slice() {
-        let content = numbers.get(from..*end).unwrap_or(&[]);
-        let Some(number) = effects.number_of(content)? else {
-            return Ok(false);
-        };
-        sections.push(number)?;
+        let number = effects.number_of(between(numbers, from, *end));
+        if number == NO_ROOM {
+            return false;
+        }
+        sections.add(number);
         from = *end;
     }
-    Ok(true)
-}
-
-fn section(sections: &[u32], place: usize) -> u32 {
-    match sections.get(place) {
-        Some(number) => *number,
-        None => 0,
-    }
+    true
 }
 
 /// The poll that does this, if anything; the key of the state that it leads to is made then.
@@ -225,11 +227,11 @@ fn poll_known(
         return Ok(None);
     }
     known.behind.clear();
-    known.behind.extend_from_slice(known.sections.as_slice())?;
-    put_changes(&mut known.behind, known.effects.changes_of(effect));
+    known.behind.add_all(known.sections.as_slice());
+    put_changes(known.behind.as_mut(), known.effects.changes_of(effect));
     keys.begin();
     for number in known.behind.as_slice() {
-        keys.push(known.effects.content(*number))?;
+        keys.add(known.effects.content(*number));
     }
     keys.pack()?;
     Ok(Some(Poll {
@@ -241,9 +243,7 @@ fn poll_known(
 
 fn put_changes(sections: &mut Vec<u32>, changes: &[Change]) {
     for change in changes {
-        if let Some(here) = sections.get_mut(change.place) {
-            *here = change.behind;
-        }
+        put(sections, change.place, change.behind);
     }
 }
 
@@ -261,15 +261,14 @@ fn poll_made<G: Gate>(
     let script = around.task.script;
     let before = noted(&desk.trial, tag).len();
     let Some(polled) = desk.trial.poll(script, gate, tag)? else {
-        keep_nothing(&mut desk.known, tag)?;
+        keep_nothing(&mut desk.known, tag);
         return Ok(None);
     };
     let local = is_local(script, around.task.calm, polled);
     desk.keys.make(&desk.trial)?;
     let items = noted(&desk.trial, tag);
-    let count = items.len();
-    let told = items.get(before..count).unwrap_or(&[]);
-    keep_effect(&mut desk.known, &desk.keys, tag, told, local)?;
+    let told = between(items, before, items.len());
+    keep_effect(&mut desk.known, &desk.keys, tag, told, local);
     Ok(Some(Poll {
         tag,
         local,
@@ -278,58 +277,50 @@ fn poll_made<G: Gate>(
 }
 
 /// Keeps that a poll of this coroutine did nothing.
-fn keep_nothing(known: &mut Known, tag: Tag) -> Result<(), Memory> {
+fn keep_nothing(known: &mut Known, tag: Tag) {
     known.behind.clear();
-    known.behind.extend_from_slice(known.sections.as_slice())?;
-    find_changes(known, tag, &[])?;
-    let seen = known.seen_by(tag);
-    known
-        .effects
-        .add(tag, seen, (false, false), known.changes.as_slice())
+    known.behind.add_all(known.sections.as_slice());
+    keep_did(known, tag, &[], (false, false));
 }
 
 /// Keeps what a poll did that noted this, if there is room.
-fn keep_effect(
-    known: &mut Known,
-    keys: &Keys,
-    tag: Tag,
-    noted: &[Item],
-    local: bool,
-) -> Result<(), Memory> {
-    if !read_sections(
+fn keep_effect(known: &mut Known, keys: &Keys, tag: Tag, noted: &[Item], local: bool) {
+    let kept = read_sections(
         &known.layout,
         &mut known.effects,
         keys,
         &mut known.ends,
         &mut known.behind,
-    )? {
-        return Ok(());
+    );
+    if kept {
+        keep_did(known, tag, noted, (true, local));
     }
-    find_changes(known, tag, noted)?;
+}
+
+/// The same where the sections behind the poll are known.
+fn keep_did(known: &mut Known, tag: Tag, noted: &[Item], did: (bool, bool)) {
+    find_changes(known, tag, noted);
     let seen = known.seen_by(tag);
-    known
-        .effects
-        .add(tag, seen, (true, local), known.changes.as_slice())
+    known.effects.add(tag, seen, did, known.changes.as_slice());
 }
 
 /// Finds the sections that a poll which noted this looked at or changed.
-fn find_changes(known: &mut Known, tag: Tag, noted: &[Item]) -> Result<(), Memory> {
+fn find_changes(known: &mut Known, tag: Tag, noted: &[Item]) {
     known.changes.clear();
     let jobs = known.layout.channels();
     let own = known.layout.place_of(tag as usize);
     for place in 0..known.sections.len() {
-        let before = section(known.sections.as_slice(), place);
-        let behind = section(known.behind.as_slice(), place);
+        let before = at(known.sections.as_slice(), place, 0);
+        let behind = at(known.behind.as_slice(), place, 0);
         let looked = place == jobs || place == own || before != behind;
         if looked || (place < jobs && has_noted(noted, place)) {
-            known.changes.push(Change {
+            known.changes.add(Change {
                 place,
                 before,
                 behind,
-            })?;
+            });
         }
     }
-    Ok(())
 }
 
 /// What a coroutine noted.

@@ -3,6 +3,7 @@
 //! The search is not trusted, and nothing is claimed of it but that it is safe and returns: it decides which orders are worth a run. What
 //! is printed of an end is read from a run of the script.
 //!
+//! - `whole`: whether memory held what was gathered.
 //! - `reads`: which coroutines read what they received.
 //! - `losses`: what was lost.
 //! - `keys`: a state of a run as numbers.
@@ -39,6 +40,7 @@ mod sections;
 mod states;
 mod wanted;
 mod ways;
+mod whole;
 
 pub use answers::{Explored, Limit, Report, explore, report_in_order, report_of_end};
 pub use wanted::{Tell, Wanted};

@@ -9,12 +9,14 @@ use crate::keys::Keys;
 use crate::known::{Known, add_by_effects};
 use crate::local::is_local;
 use crate::states::{States, hash_of};
+use crate::whole::if_whole;
 use channel_model::{Act, ChannelNote, Settled};
 use co_base::{Gate, Memory, Tag};
 use engine_one::{Polled, Trial};
+use gathered::{Gathered, at, between, put};
 use note_book::{Item, Notes};
 use script_reader::Script;
-use std::alloc::Global;
+use std::alloc::{AllocError, Global};
 use std::sync::atomic::{AtomicU32, Ordering};
 use std::thread;
 use std::thread::Threads;
@@ -93,23 +95,29 @@ pub(crate) struct Place {
 pub(crate) struct Part {
     pub(crate) span: Span,
     /// For each state, where its polls end.
-    ends: Vec<usize>,
-    polls: Vec<Reached>,
+    ends: Gathered<usize>,
+    polls: Gathered<Reached>,
     /// The keys, one behind another.
-    keys: Vec<u64>,
+    keys: Gathered<u64>,
     /// What was found of states that are reached.
-    found: Vec<Found>,
+    found: Gathered<Found>,
 }
 
 impl Part {
     fn new(alloc: Global, span: Span) -> Part {
         Part {
             span,
-            ends: Vec::new(alloc),
-            polls: Vec::new(alloc),
-            keys: Vec::new(alloc),
-            found: Vec::new(alloc),
+            ends: Gathered::new(alloc),
+            polls: Gathered::new(alloc),
+            keys: Gathered::new(alloc),
+            found: Gathered::new(alloc),
         }
+    }
+
+    /// Whether memory held all that was added.
+    fn is_whole(&self) -> bool {
+        let polls = self.ends.is_whole() && self.polls.is_whole();
+        polls && self.keys.is_whole() && self.found.is_whole()
     }
 
     /// Of how many states it tells.
@@ -119,44 +127,40 @@ impl Part {
 
     /// The polls that do something in the state with this place. If there are none, it is an end.
     pub(crate) fn polls_of(&self, place: usize) -> &[Reached] {
-        let start = match place.checked_sub(1) {
-            Some(before) => self.ends.get(before).copied().unwrap_or(0),
-            None => 0,
-        };
-        let end = self.ends.get(place).copied().unwrap_or(0);
-        self.polls.get(start..end).unwrap_or(&[])
+        let ends = self.ends.as_slice();
+        let start = at(ends, place.wrapping_sub(1), 0);
+        between(self.polls.as_slice(), start, at(ends, place, 0))
     }
 
     /// The key of the state that a poll leads to.
     pub(crate) fn key_of(&self, reached: Reached) -> &[u64] {
-        self.keys
-            .get(reached.key.start..reached.key.end)
-            .unwrap_or(&[])
+        between(self.keys.as_slice(), reached.key.start, reached.key.end)
     }
 
     /// What was found of that state, and of those behind it.
     pub(crate) fn found_of(&self, reached: Reached) -> &[Found] {
-        self.found
-            .get(reached.found.start..reached.found.end)
-            .unwrap_or(&[])
+        between(
+            self.found.as_slice(),
+            reached.found.start,
+            reached.found.end,
+        )
     }
 
     /// The keys of the states that those polls lead to.
     pub(crate) fn found_keys_of(&self, reached: Reached) -> &[u64] {
-        self.keys
-            .get(reached.found_keys.start..reached.found_keys.end)
-            .unwrap_or(&[])
+        let place = reached.found_keys;
+        between(self.keys.as_slice(), place.start, place.end)
     }
 
     /// Adds a poll of the state that is looked at. Of a state that was seen the key is not needed.
-    pub(crate) fn add(&mut self, poll: Poll, seen: bool, key: &[u64]) -> Result<(), Memory> {
+    pub(crate) fn add(&mut self, poll: Poll, seen: bool, key: &[u64]) {
         let start = self.keys.len();
         if !seen {
-            self.keys.extend_from_slice(key)?;
+            self.keys.add_all(key);
         }
         let end = self.keys.len();
         let found = self.found.len();
-        self.polls.push(Reached {
+        self.polls.add(Reached {
             poll,
             seen,
             key: Place { start, end },
@@ -165,41 +169,40 @@ impl Part {
                 end: found,
             },
             found_keys: Place { start: end, end },
-        })?;
-        Ok(())
+        });
     }
 
     /// Adds what was found behind the last poll.
-    fn add_found(&mut self, found: &[Found], keys: &[u64]) -> Result<(), Memory> {
-        self.found.extend_from_slice(found)?;
-        self.keys.extend_from_slice(keys)?;
-        if let Some(last) = self.polls.last_mut() {
-            last.found.end = self.found.len();
-            last.found_keys.end = self.keys.len();
+    fn add_found(&mut self, found: &[Found], keys: &[u64]) {
+        self.found.add_all(found);
+        self.keys.add_all(keys);
+        let (found, keys) = (self.found.len(), self.keys.len());
+        if let Some(last) = self.polls.as_mut().last_mut() {
+            last.found.end = found;
+            last.found_keys.end = keys;
         }
-        Ok(())
     }
 
     /// Adds the poll that was found of a state, and what was found behind it.
-    fn add_ahead(&mut self, states: &States, poll: Poll, ahead: Ahead) -> Result<(), Memory> {
+    fn add_ahead(&mut self, states: &States, poll: Poll, ahead: Ahead) {
         let key = ahead.first_key();
-        if states.has(poll.hash, key) {
-            return self.add(poll, true, key);
+        let seen = states.has(poll.hash, key);
+        self.add(poll, seen, key);
+        if !seen {
+            self.add_found(ahead.rest(), ahead.rest_keys());
         }
-        self.add(poll, false, key)?;
-        self.add_found(ahead.rest(), ahead.rest_keys())
     }
 
     /// All polls of the state that is looked at were added.
-    fn end_state(&mut self) -> Result<(), Memory> {
-        self.ends.push(self.polls.len())?;
-        Ok(())
+    fn end_state(&mut self) {
+        self.ends.add(self.polls.len());
     }
 
     /// Leaves the polls of the state that is looked at out.
     pub(crate) fn take_back(&mut self) {
-        let before = self.ends.last().copied().unwrap_or(0);
-        if let Some(first) = self.polls.get(before).copied() {
+        let ends = self.ends.as_slice();
+        let before = at(ends, ends.len().wrapping_sub(1), 0);
+        if let Some(first) = self.polls.as_slice().get(before).copied() {
             self.keys.truncate(first.key.start);
             self.found.truncate(first.found.start);
         }
@@ -215,10 +218,33 @@ pub(crate) struct Desk {
     pub(crate) known: Known,
     /// The polls by which the state that is looked at was reached.
     pub(crate) order: Vec<Tag>,
+    in_mind: InMind,
+}
+
+/// What a worker has in mind.
+#[derive(Drop)]
+struct InMind {
     /// At the place that a hash names, one of a state that was new.
     hashes: Vec<u64>,
     /// At the place that a coroutine and its last note name, whether the poll behind such a note did not suffice, when it was made last.
     habits: Vec<bool>,
+}
+
+impl InMind {
+    fn new(alloc: Global) -> Result<InMind, AllocError> {
+        Ok(InMind {
+            hashes: vec![in alloc; 0u64; HASHES]?,
+            habits: vec![in alloc; false; HABITS]?,
+        })
+    }
+
+    /// Whether the state with this hash was none of those new ones that are in mind. It is one of them then.
+    fn is_first(&mut self, hash: u64) -> bool {
+        let place = hash as usize & self.hashes.len().saturating_sub(1);
+        let is_first = at(self.hashes.as_slice(), place, 0) != hash;
+        put(&mut self.hashes, place, hash);
+        is_first
+    }
 }
 
 impl Desk {
@@ -229,23 +255,9 @@ impl Desk {
             trial: Trial::new(alloc, task.script)?,
             keys: Keys::new(alloc, task.script, task.losses)?,
             known: Known::new(alloc, task.script)?,
+            in_mind: InMind::new(alloc)?,
             order: Vec::new(alloc),
-            hashes: vec![in alloc; 0u64; HASHES]?,
-            habits: vec![in alloc; false; HABITS]?,
         })
-    }
-}
-
-/// Whether the state with this hash was none of those new ones that are in mind. It is one of them then.
-fn is_first(hashes: &mut Vec<u64>, hash: u64) -> bool {
-    let place = hash as usize & hashes.len().saturating_sub(1);
-    match hashes.get_mut(place) {
-        Some(here) => {
-            let is_first = *here != hash;
-            *here = hash;
-            is_first
-        }
-        None => true,
     }
 }
 
@@ -362,8 +374,9 @@ fn part_of<G: Gate>(
             ahead: states.aheads.of(state),
         };
         add_state(alloc, around, gate, desk, &mut part)?;
-        part.end_state()?;
+        part.end_state();
     }
+    if_whole(part.is_whole())?;
     Ok(part)
 }
 
@@ -401,7 +414,7 @@ fn add_state<G: Gate>(
     let serves = desk.known.serves();
     if serves && around.task.plain && around.state > 0 {
         if add_by_effects(alloc, around, gate, desk, part)? {
-            return Ok(());
+            return desk.known.whole();
         }
     }
     let mut order = Vec::new(alloc);
@@ -430,17 +443,17 @@ fn add_polls<G: Gate>(
         return Ok(());
     };
     if poll.local {
-        return add_known(around, part, poll);
+        add_known(around, part, poll);
+        return Ok(());
     }
     let end = found.stuck_from.max(poll.tag.saturating_add(1));
     add_polls_among(alloc, around, gate, desk, part, order, Some(poll), end)
 }
 
 /// Adds the poll that was found of the state, and what was found behind it.
-fn add_known(around: Around, part: &mut Part, poll: Poll) -> Result<(), Memory> {
-    match around.ahead {
-        Some(ahead) => part.add_ahead(around.states, poll, ahead),
-        None => Ok(()),
+fn add_known(around: Around, part: &mut Part, poll: Poll) {
+    if let Some(ahead) = around.ahead {
+        part.add_ahead(around.states, poll, ahead);
     }
 }
 
@@ -475,7 +488,7 @@ fn add_polls_among<G: Gate>(
         let Some(poll) = known else {
             return Ok(());
         };
-        add_known(around, part, poll)?;
+        add_known(around, part, poll);
         from = poll.tag.saturating_add(1);
         known = None;
     }
@@ -523,8 +536,8 @@ fn add_first<G: Gate>(
         part.take_back();
     }
     let seen = around.states.has(poll.hash, desk.keys.last());
-    part.add(poll, seen, desk.keys.last())?;
-    if !seen && is_first(&mut desk.hashes, poll.hash) {
+    part.add(poll, seen, desk.keys.last());
+    if !seen && desk.in_mind.is_first(poll.hash) {
         look_ahead(around, gate, desk, part, poll)?;
     }
     Ok(Some(poll))
@@ -577,7 +590,8 @@ fn look_ahead<G: Gate>(
     'states: for _ in 0..ROW {
         let stuck_from = desk.trial.stuck_from();
         let Some(polled) = poll_behind(around.task, gate, desk, before)? else {
-            return part.add_found(&[no_poll(stuck_from)], &[]);
+            part.add_found(&[no_poll(stuck_from)], &[]);
+            return Ok(());
         };
         let poll = poll_made(around.task, desk, polled)?;
         let found = Found {
@@ -585,7 +599,7 @@ fn look_ahead<G: Gate>(
             words: desk.keys.last().len(),
             stuck_from,
         };
-        part.add_found(&[found], desk.keys.last())?;
+        part.add_found(&[found], desk.keys.last());
         if !poll.local || around.states.has(poll.hash, desk.keys.last()) {
             return Ok(());
         }
@@ -617,9 +631,8 @@ fn poll_behind<G: Gate>(
 {
     if let Some(habit) = habit_of(desk, before) {
         if let Some(polled) = desk.trial.poll(task.script, gate, before.tag)? {
-            if let Some(here) = desk.habits.get_mut(habit) {
-                *here = !is_local(task.script, task.calm, polled);
-            }
+            let suffices = is_local(task.script, task.calm, polled);
+            put(&mut desk.in_mind.habits, habit, !suffices);
             return Ok(Some(polled));
         }
     }
@@ -634,9 +647,10 @@ fn habit_of(desk: &Desk, before: Poll) -> Option<usize> {
     let tag = before.tag as usize;
     let note = last_note(desk.trial.book(tag))?;
     let place = tag.wrapping_mul(8).wrapping_add(note) & HABITS.saturating_sub(1);
-    match desk.habits.get(place) {
-        Some(false) => Some(place),
-        _ => None,
+    if at(desk.in_mind.habits.as_slice(), place, true) {
+        None
+    } else {
+        Some(place)
     }
 }
 

@@ -4,8 +4,10 @@ ghost use Rattle.std.specs.Prelude.{OnOk};
 ghost use Rattle.script_reader.specs.Scripts.{program_of};
 ghost use Rattle.engine_one.specs.Trials.{TrialStands};
 
+use crate::whole::if_whole;
 use co_base::{Gate, Memory, Tag};
 use engine_one::Trial;
+use gathered::Gathered;
 use note_book::Notes;
 use script_grammar::Instruction;
 use script_reader::Script;
@@ -57,21 +59,22 @@ pub(crate) fn runs_of(alloc: Global, script: &Script) -> Result<u32, Memory> {
 fn turns_of(alloc: Global, code: &[Instruction]) -> Result<u64, Memory> {
     let mut most = 1u64;
     let mut now = 1u64;
-    let mut around = Vec::new(alloc);
+    let mut around = Gathered::new(alloc);
     for line in code {
         match *line {
             Instruction::Repeat { turns } => {
-                around.push(now)?;
+                around.add(now);
                 now = now.saturating_mul(u64::from(turns));
             }
             Instruction::Each { .. } | Instruction::Scope { .. } | Instruction::Select => {
-                around.push(now)?;
+                around.add(now);
             }
-            Instruction::End => now = around.pop().unwrap_or(1),
+            Instruction::End => now = around.as_mut().pop().unwrap_or(1),
             _ => {}
         }
         most = most.max(now);
     }
+    if_whole(around.is_whole())?;
     Ok(most)
 }
 

@@ -4,6 +4,7 @@
 use crate::reads::reads_of;
 use co_base::Memory;
 use engine_base::rows_of;
+use gathered::{Gathered, at};
 use script_reader::Script;
 use std::alloc::Global;
 
@@ -44,28 +45,24 @@ impl Layout {
     }
 
     /// Tells for each section but the last where it ends.
-    pub(crate) fn read_ends(&self, numbers: &[u64], ends: &mut Vec<usize>) -> Result<(), Memory> {
+    pub(crate) fn read_ends(&self, numbers: &[u64], ends: &mut Gathered<usize>) {
         ends.clear();
-        let mut at = 0usize;
+        let mut end = 0usize;
         for counted in self.counted.as_slice() {
-            at = channel_end(numbers, at, *counted);
-            ends.push(at)?;
+            end = channel_end(numbers, end, *counted);
+            ends.add(end);
         }
-        at = jobs_end(numbers, at, self.jobs);
-        ends.push(at)?;
+        end = jobs_end(numbers, end, self.jobs);
+        ends.add(end);
         for reads in self.reads.as_slice() {
-            at = coroutine_end(numbers, at, *reads);
-            ends.push(at)?;
+            end = coroutine_end(numbers, end, *reads);
+            ends.add(end);
         }
-        Ok(())
     }
 }
 
-fn number_at(numbers: &[u64], at: usize) -> u64 {
-    match numbers.get(at) {
-        Some(number) => *number,
-        None => 0,
-    }
+fn number_at(numbers: &[u64], place: usize) -> u64 {
+    at(numbers, place, 0)
 }
 
 /// Behind so many numbers.

@@ -1,7 +1,9 @@
 //! The states that were seen, and how each was reached.
 
 use crate::aheads::Aheads;
+use crate::whole::if_whole;
 use co_base::{Memory, Tag};
+use gathered::{Gathered, at, between, put};
 use std::alloc::Global;
 use std::mem::replace;
 
@@ -15,8 +17,8 @@ const PLACES: usize = 1024;
 #[derive(Drop)]
 pub(crate) struct States {
     /// How each was reached: from which state, by a poll of which coroutine; and where its key ends.
-    steps: Vec<Step>,
-    keys: Vec<u64>,
+    steps: Gathered<Step>,
+    keys: Gathered<u64>,
     places: Vec<Seat>,
     most: usize,
     /// What was found of those that were not looked at yet.
@@ -43,25 +45,25 @@ struct Seat {
 
 const FREE: Seat = Seat { hash: 0, number: 0 };
 
-/// Where a key stands in the table: at a state that has it, or at a place that is free for it.
-#[derive(Clone, Copy)]
-enum Found {
-    Seen,
-    Free(usize),
-}
+/// The step to the first state, which there is before any poll.
+const FIRST: Step = Step {
+    key_end: 0,
+    from: 0,
+    tag: 0,
+};
+
+/// In place of a free place for a key: a state that has it was seen.
+const SEEN: usize = usize::MAX;
 
 impl States {
     pub(crate) fn new(alloc: Global, most: u32) -> Result<States, Memory> {
-        let mut steps = Vec::new(alloc);
-        steps.push(Step {
-            key_end: 0,
-            from: 0,
-            tag: 0,
-        })?;
+        let places = vec![in alloc; FREE; PLACES]?;
+        let mut steps = Gathered::new(alloc);
+        steps.add(FIRST);
         Ok(States {
             steps,
-            keys: Vec::new(alloc),
-            places: vec![in alloc; FREE; PLACES]?,
+            keys: Gathered::new(alloc),
+            places,
             most: most as usize,
             aheads: Aheads::new(alloc),
             full: false,
@@ -82,25 +84,29 @@ impl States {
         key: &[u64],
     ) -> Result<Option<u32>, Memory> {
         self.count_turn();
-        let Found::Free(place) = self.place_of(hash, key) else {
+        let place = self.place_of(hash, key);
+        if place == SEEN {
             return Ok(None);
-        };
+        }
         let Some(number) = self.next_number() else {
             self.full = true;
             return Ok(None);
         };
-        self.keys.extend_from_slice(key)?;
-        self.steps.push(Step {
-            key_end: self.keys.len(),
-            from,
-            tag,
-        })?;
+        self.keys.add_all(key);
+        let key_end = self.keys.len();
+        self.steps.add(Step { key_end, from, tag });
         let hash = half_of(hash);
-        self.put(place, Seat { hash, number });
+        put(&mut self.places, place, Seat { hash, number });
         if self.steps.len() > self.places.len() / 4 * 3 {
             self.grow()?;
         }
         Ok(Some(number))
+    }
+
+    /// Tells whether memory held all that was kept.
+    pub(crate) fn whole(&self) -> Result<(), Memory> {
+        let states = self.steps.is_whole() && self.keys.is_whole();
+        if_whole(states && self.aheads.is_whole())
     }
 
     /// A poll led to a state that was seen.
@@ -110,7 +116,7 @@ impl States {
 
     /// Whether a state with this key, and the hash of it, was seen.
     pub(crate) fn has(&self, hash: u64, key: &[u64]) -> bool {
-        matches!(self.place_of(hash, key), Found::Seen)
+        self.place_of(hash, key) == SEEN
     }
 
     /// The number of the next state, if there may be one more.
@@ -121,32 +127,26 @@ impl States {
         u32::try_from(self.steps.len()).ok()
     }
 
-    /// Where a state with this key stands, or may stand.
-    fn place_of(&self, hash: u64, key: &[u64]) -> Found {
+    /// Where a state with this key may stand; `SEEN`, if there is one.
+    fn place_of(&self, hash: u64, key: &[u64]) -> usize {
         let half = half_of(hash);
         let mask = self.places.len().saturating_sub(1);
         let mut place = half as usize & mask;
         for _ in 0..self.places.len() {
             let seat = self.seat_at(place);
             if seat.number == 0 {
-                return Found::Free(place);
+                return place;
             }
             if seat.hash == half && self.key_of(seat.number as usize) == key {
-                return Found::Seen;
+                return SEEN;
             }
             place = place.wrapping_add(1) & mask;
         }
-        Found::Free(0)
+        0
     }
 
     fn seat_at(&self, place: usize) -> Seat {
-        self.places.get(place).copied().unwrap_or(FREE)
-    }
-
-    fn put(&mut self, place: usize, seat: Seat) {
-        if let Some(here) = self.places.get_mut(place) {
-            *here = seat;
-        }
+        at(self.places.as_slice(), place, FREE)
     }
 
     /// Puts it at the first free place for its hash.
@@ -155,24 +155,21 @@ impl States {
         let mut place = seat.hash as usize & mask;
         for _ in 0..self.places.len() {
             if self.seat_at(place).number == 0 {
-                self.put(place, seat);
-                return;
+                break;
             }
             place = place.wrapping_add(1) & mask;
         }
+        put(&mut self.places, place, seat);
+    }
+
+    fn step(&self, state: usize) -> Step {
+        at(self.steps.as_slice(), state, FIRST)
     }
 
     /// The key of a state.
     pub(crate) fn key_of(&self, state: usize) -> &[u64] {
-        let start = match self.steps.get(state.saturating_sub(1)) {
-            Some(step) => step.key_end,
-            None => 0,
-        };
-        let end = match self.steps.get(state) {
-            Some(step) => step.key_end,
-            None => 0,
-        };
-        self.keys.get(start..end).unwrap_or(&[])
+        let start = self.step(state.saturating_sub(1)).key_end;
+        between(self.keys.as_slice(), start, self.step(state).key_end)
     }
 
     /// Doubles the places.
@@ -201,16 +198,14 @@ impl States {
     /// The same, in place of what the list has.
     pub(crate) fn read_order(&self, state: u32, order: &mut Vec<Tag>) -> Result<(), Memory> {
         order.clear();
-        let mut at = state;
+        let mut here = state;
         for _ in 0..self.steps.len() {
-            if at == 0 {
+            if here == 0 {
                 break;
             }
-            let Some(step) = self.steps.get(at as usize) else {
-                break;
-            };
+            let step = self.step(here as usize);
             order.push(step.tag)?;
-            at = step.from;
+            here = step.from;
         }
         order.reverse();
         Ok(())

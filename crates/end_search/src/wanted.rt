@@ -12,7 +12,7 @@ use poll_states::Done;
 use report_reader::cut_at;
 use run_report::report;
 use script_reader::Script;
-use std::alloc::Global;
+use std::alloc::{AllocError, Global};
 
 /// Which ends are looked for.
 #[derive(Clone, Copy, Debug, PartialEq, Eq)]
@@ -73,24 +73,41 @@ pub(crate) fn told_of(
     done: &Done<Notes>,
 ) -> Result<Told, Memory> {
     let mut lines = Vec::new(alloc);
-    let text = report(alloc, script, done)?;
-    push_ends(alloc, &mut lines, text.as_slice())?;
-    let waits = waits_in(alloc, script, source, text.as_slice())?;
-    push_ends(alloc, &mut lines, waits.as_slice())?;
-    let refused = refused_sends(alloc, script, done.books.as_slice())?;
-    push_ends(alloc, &mut lines, refused.as_bytes())?;
+    push_told(alloc, &mut lines, script, source, done)?;
     lines.sort()?;
-    let mut apart = Vec::new(alloc);
-    for line in lines.as_slice() {
-        if tell.is_told(line.as_slice()) {
-            apart.push(Vec::from_slice(alloc, line.as_slice())?)?;
-        }
-    }
+    let apart = lines_told(alloc, lines.as_slice(), tell)?;
     Ok(Told {
         root: done.end,
         lines,
         apart,
     })
+}
+
+/// Adds the lines of Jobs, of elements, of coroutines that wait and of refused sends.
+fn push_told(
+    alloc: Global,
+    lines: &mut Vec<Vec<u8>>,
+    script: &Script,
+    source: &[u8],
+    done: &Done<Notes>,
+) -> Result<(), Memory> {
+    let text = report(alloc, script, done)?;
+    push_ends(alloc, lines, text.as_slice())?;
+    let waits = waits_in(alloc, script, source, text.as_slice())?;
+    push_ends(alloc, lines, waits.as_slice())?;
+    let refused = refused_sends(alloc, script, done.books.as_slice())?;
+    push_ends(alloc, lines, refused.as_bytes())
+}
+
+/// Those of some lines by which ends are told apart.
+fn lines_told(alloc: Global, lines: &[Vec<u8>], tell: Tell) -> Result<Vec<Vec<u8>>, Memory> {
+    let mut told = Vec::new(alloc);
+    for line in lines {
+        if tell.is_told(line.as_slice()) {
+            told.push(Vec::from_slice(alloc, line.as_slice())?)?;
+        }
+    }
+    Ok(told)
 }
 
 /// Adds the lines of a text that are not of a book; that of an element without its place.
@@ -102,7 +119,7 @@ fn push_ends(alloc: Global, lines: &mut Vec<Vec<u8>>, text: &[u8]) -> Result<(),
             lines.push(without_place(alloc, line)?)?;
         }
         let Some(next) = more else {
-            return Ok(());
+            break;
         };
         rest = next;
     }
@@ -110,20 +127,14 @@ fn push_ends(alloc: Global, lines: &mut Vec<Vec<u8>>, text: &[u8]) -> Result<(),
 }
 
 /// The line of an element without its place, another as it is.
-fn without_place(alloc: Global, line: &[u8]) -> Result<Vec<u8>, Memory> {
-    let mut text = Vec::new(alloc);
-    if line.starts_with(b"element ") {
-        let (_, rest) = cut_at(b' ', line);
-        let (name, behind) = cut_at(b' ', rest.unwrap_or(b""));
-        let (_, last) = cut_at(b' ', behind.unwrap_or(b""));
-        text.extend_from_slice(b"element ")?;
-        text.extend_from_slice(name)?;
-        text.extend_from_slice(b" ")?;
-        text.extend_from_slice(last.unwrap_or(b""))?;
-    } else {
-        text.extend_from_slice(line)?;
+fn without_place(alloc: Global, line: &[u8]) -> Result<Vec<u8>, AllocError> {
+    if !line.starts_with(b"element ") {
+        return Vec::from_slice(alloc, line);
     }
-    Ok(text)
+    let (_, rest) = cut_at(b' ', line);
+    let (name, behind) = cut_at(b' ', rest.unwrap_or(b""));
+    let (_, last) = cut_at(b' ', behind.unwrap_or(b""));
+    [b"element ".as_slice(), name, b" ", last.unwrap_or(b"")].concat(alloc)
 }
 
 /// Whether an end with this root is one that is looked for, as far as its root says.
@@ -203,8 +214,8 @@ impl Told {
     pub(crate) fn copied(&self, alloc: Global) -> Result<Told, Memory> {
         Ok(Told {
             root: self.root,
-            lines: texts_copied(alloc, self.lines.as_slice())?,
-            apart: texts_copied(alloc, self.apart.as_slice())?,
+            lines: lines_told(alloc, self.lines.as_slice(), Tell::All)?,
+            apart: lines_told(alloc, self.apart.as_slice(), Tell::All)?,
         })
     }
 
@@ -216,12 +227,4 @@ impl Told {
         }
         false
     }
-}
-
-fn texts_copied(alloc: Global, texts: &[Vec<u8>]) -> Result<Vec<Vec<u8>>, Memory> {
-    let mut copies = Vec::new(alloc);
-    for text in texts {
-        copies.push(Vec::from_slice(alloc, text.as_slice())?)?;
-    }
-    Ok(copies)
 }

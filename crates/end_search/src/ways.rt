@@ -129,32 +129,66 @@ fn look_through<R: Threads + Sync, G: Gate + Sync, E: Sink>(
     course: &mut Course,
     errors: &mut E,
 ) -> Result<bool, Memory> {
-    let mut from = 0;
     let mut desk = Desk::new(alloc, search.task)?;
+    look_from_desk(rt, alloc, search, gate, course, errors, &mut desk)
+}
+
+/// The same; one worker alone works at this desk.
+fn look_from_desk<R: Threads + Sync, G: Gate + Sync, E: Sink>(
+    rt: &R,
+    alloc: Global,
+    search: Search,
+    gate: &G,
+    course: &mut Course,
+    errors: &mut E,
+    desk: &mut Desk,
+) -> Result<bool, Memory>
+    requires { TrialStands (program_of search.task.script.now) desk.old.trial }
+{
+    let mut from = 0;
     for _ in 0..search.states {
         let span = span_from(from, course.states.count(), search.workers);
         if span.from >= span.to {
             break;
         }
-        let parts = parts_of(
-            rt,
-            alloc,
-            search.task,
-            gate,
-            &course.states,
-            span,
-            search.workers,
-            &mut desk,
-        )?;
-        for part in parts.as_slice() {
-            if add_part(alloc, search, gate, course, errors, part)? {
-                return Ok(true);
-            }
-            from = part.span.from.saturating_add(number_of(part.count()));
+        let states = &course.states;
+        let workers = search.workers;
+        let parts = parts_of(rt, alloc, search.task, gate, states, span, workers, desk)?;
+        if add_parts(alloc, search, gate, course, errors, parts.as_slice())? {
+            return Ok(true);
         }
-        course.states.aheads.leave_behind(alloc, from);
+        from = end_of(parts.as_slice(), from);
+        course.states.aheads.leave_behind(from);
     }
     Ok(false)
+}
+
+/// Adds what was found of states. The answer says whether as many ends are there as are looked for.
+fn add_parts<G: Gate, E: Sink>(
+    alloc: Global,
+    search: Search,
+    gate: &G,
+    course: &mut Course,
+    errors: &mut E,
+    parts: &[Part],
+) -> Result<bool, Memory> {
+    let mut found = false;
+    for part in parts {
+        if add_part(alloc, search, gate, course, errors, part)? {
+            found = true;
+            break;
+        }
+    }
+    course.states.whole()?;
+    Ok(found)
+}
+
+/// The number of the state behind these parts; the other, if there are none.
+fn end_of(parts: &[Part], other: u32) -> u32 {
+    match parts.last() {
+        Some(part) => part.span.from.saturating_add(number_of(part.count())),
+        None => other,
+    }
 }
 
 /// The states from this number on that are looked at next, of so many.
@@ -188,9 +222,7 @@ fn add_part<G: Gate, E: Sink>(
             tell_progress(alloc, errors, state, &course.states, course.ends.len())?;
         }
         let polls = part.polls_of(place);
-        for reached in polls {
-            add_state(&mut course.states, state, part, *reached)?;
-        }
+        add_states(&mut course.states, state, part, polls)?;
         if polls.is_empty() {
             let order = course.states.order_of(alloc, state)?;
             push_end(alloc, search, gate, course, order)?;
@@ -202,21 +234,34 @@ fn add_part<G: Gate, E: Sink>(
     Ok(false)
 }
 
+/// Adds the states that polls in this state lead to.
+fn add_states(
+    states: &mut States,
+    state: u32,
+    part: &Part,
+    polls: &[Reached],
+) -> Result<(), Memory> {
+    for reached in polls {
+        if reached.seen {
+            states.count_turn();
+        } else {
+            add_state(states, state, part, *reached)?;
+        }
+    }
+    Ok(())
+}
+
 /// Adds the state that a poll in this state leads to, if it is new, and what was found of it.
 fn add_state(states: &mut States, state: u32, part: &Part, reached: Reached) -> Result<(), Memory> {
     let poll = reached.poll;
-    if reached.seen {
-        states.count_turn();
-        return Ok(());
-    }
     let key = part.key_of(reached);
-    let Some(number) = states.add(state, poll.tag, poll.hash, key)? else {
-        return Ok(());
-    };
-    let found = part.found_of(reached);
-    states
-        .aheads
-        .keep(number, found, part.found_keys_of(reached))
+    if let Some(number) = states.add(state, poll.tag, poll.hash, key)? {
+        let found = part.found_of(reached);
+        states
+            .aheads
+            .keep(number, found, part.found_keys_of(reached));
+    }
+    Ok(())
 }
 
 /// Says how far the search is. If that cannot be written, it is not said.
@@ -264,20 +309,38 @@ fn sample<G: Gate>(
     gate: &G,
     course: &mut Course,
 ) -> Result<bool, Memory> {
-    let script = search.task.script;
-    let mut trial = Trial::new(alloc, script)?;
+    push_usual(alloc, search, course)?;
+    let mut trial = Trial::new(alloc, search.task.script)?;
+    sample_by(alloc, search, gate, course, &mut trial)
+}
+
+/// Adds the end of one worker.
+fn push_usual(alloc: Global, search: Search, course: &mut Course) -> Result<(), Memory> {
     let usual = Way {
         order: Vec::new(alloc),
         told: course.usual.copied(alloc)?,
     };
-    push_way(search, course, usual)?;
+    push_way(search, course, usual)
+}
+
+/// Adds the ends of runs in random orders, which are made by this one.
+fn sample_by<G: Gate>(
+    alloc: Global,
+    search: Search,
+    gate: &G,
+    course: &mut Course,
+    trial: &mut Trial<Notes>,
+) -> Result<bool, Memory>
+    requires { TrialStands (program_of search.task.script.now) trial.old }
+{
+    let script = search.task.script;
     let mut numbers = Numbers::new();
     let runs = runs_of(alloc, script)?;
     for run in 0..runs {
         if course.ends.len() >= search.ends {
             return Ok(true);
         }
-        let order = random_order(alloc, script, gate, &mut trial, &mut numbers, run % 2 == 1)?;
+        let order = random_order(alloc, script, gate, trial, &mut numbers, run % 2 == 1)?;
         push_end(alloc, search, gate, course, order)?;
     }
     Ok(course.ends.len() >= search.ends)

@@ -1,4 +1,5 @@
 mod Cuts
 mod Named
 mod Written
+mod EqualNotes
 mod Judging

@@ -6,6 +6,7 @@ use job_model::{Cause, JobState};
 use job_replay::JobLook;
 use note_book::{Item, NoteBook, Notes};
 use one_thread_floor::Snapshot;
+use report_reader::cut_at;
 use run_report::report_of;
 use script_reader::Channel;
 use std::alloc::{AllocError, Global};
@@ -41,115 +42,161 @@ pub(crate) fn hint_text(
 
 /// What stood at a channel or a Job, in one line of words.
 pub fn stood_text(alloc: Global, channels: &[Channel], stood: Stood) -> Result<Vec<u8>, Memory> {
-    match stood {
-        Stood::Channel(c, at) => Ok(channel_hint(alloc, channels, c, at)?),
-        Stood::Job(row, look) => Ok(job_hint(alloc, row, look)?),
-    }
-}
-
-/// An item as a report writes it, behind the number of its coroutine.
-fn item_text(alloc: Global, channels: &[Channel], item: Item) -> Result<String, Memory> {
-    let mut book = Notes::new(alloc);
-    book.room(1)?;
-    book.note(item);
-    let mut books = Vec::new(alloc);
-    books.push(book)?;
     let mut text = String::new(alloc);
-    if channels.len() < 65536 {
-        let report = report_of(alloc, channels, 0, books.as_slice())?;
-        if let Some((line, _)) = report.as_str().split_once('\n') {
-            if let Some((_, words)) = line.split_once(' ') {
-                text.push_str(words)?;
-            }
-        }
-    }
-    Ok(text)
+    push_stood(&mut text, channels, stood)?;
+    Ok(text.into_bytes())
 }
 
+fn push_stood(text: &mut String, channels: &[Channel], stood: Stood) -> Result<(), AllocError> {
+    match stood {
+        Stood::Channel(c, at) => push_channel(text, channels, c, at),
+        Stood::Job(row, look) => push_job(text, row, look),
+    }
+}
+
+/// What a coroutine wrote, as a report writes it behind the number of the coroutine, or that it did nothing.
 fn instead_text(
     alloc: Global,
     channels: &[Channel],
     tag: Tag,
     item: Option<Item>,
 ) -> Result<Vec<u8>, Memory> {
-    let text = match item {
+    let front = format!(in alloc; "coroutine {tag} ")?;
+    match item {
         Some(item) => {
-            let words = item_text(alloc, channels, item)?;
-            format!(in alloc; "coroutine {tag} writes there: {words}\n")?
+            let report = report_with(alloc, channels, item)?;
+            Ok([
+                front.as_bytes(),
+                b"writes there: ",
+                first_words(report.as_bytes()),
+                b"\n",
+            ]
+            .concat(alloc)?)
         }
-        None => format!(in alloc; "coroutine {tag} does nothing there\n")?,
-    };
-    Ok(text.into_bytes())
+        None => Ok([front.as_bytes(), b"does nothing there\n"].concat(alloc)?),
+    }
 }
 
-/// What stood at a channel, in words.
-fn channel_hint(
-    alloc: Global,
+/// The report of a run whose first coroutine noted this and nothing else; no text, if there are more channels than a report can have.
+fn report_with(alloc: Global, channels: &[Channel], item: Item) -> Result<String, Memory> {
+    if channels.len() >= 65536 {
+        return Ok(String::new(alloc));
+    }
+    let books = books_with(alloc, item)?;
+    Ok(report_of(alloc, channels, 0, books.as_slice())?)
+}
+
+fn books_with(alloc: Global, item: Item) -> Result<Vec<Notes>, Memory> {
+    let mut book = Notes::new(alloc);
+    book.room(1)?;
+    book.note(item);
+    let mut books = Vec::new(alloc);
+    books.push(book)?;
+    Ok(books)
+}
+
+/// The first line of a text behind its first word.
+fn first_words(text: &[u8]) -> &[u8] {
+    let (line, _) = cut_at(b'\n', text);
+    let (_, words) = cut_at(b' ', line);
+    words.unwrap_or(&[])
+}
+
+/// Adds what stood at a channel, in words.
+fn push_channel(
+    text: &mut String,
     channels: &[Channel],
     c: ChannelId,
     at: Snapshot,
-) -> Result<Vec<u8>, AllocError> {
-    let mut text = Vec::new(alloc);
-    if channels.len() <= c as usize {
-        return Ok(text);
-    }
-    let name = channels[c as usize].name.as_str();
+) -> Result<(), AllocError> {
+    let Some(channel) = channels.get(c as usize) else {
+        return Ok(());
+    };
+    let name = channel.name.as_str();
     let next = at.next;
     let queued = at.queued;
-    let first = format!(in alloc; "{name}: place {next} is next, {queued} queued")?;
-    text.extend_from_slice(first.as_bytes())?;
-    if let Some(offer) = at.first_offer {
-        let value = offer.value;
-        let place = offer.place;
-        let part = format!(in alloc; ", first {value} at place {place}")?;
-        text.extend_from_slice(part.as_bytes())?;
-    }
-    if let Some(receiver) = at.first_receiver {
-        let place = receiver.place;
-        let part = format!(in alloc; ", a receiver waits at place {place}")?;
-        text.extend_from_slice(part.as_bytes())?;
-    }
-    if let Some(value) = at.closed {
-        let part = format!(in alloc; ", closed with {value}")?;
-        text.extend_from_slice(part.as_bytes())?;
-    }
-    text.extend_from_slice(b"\n")?;
-    Ok(text)
+    write!(text, "{name}: place {next} is next, {queued} queued")?;
+    push_first_offer(text, at)?;
+    push_first_receiver(text, at)?;
+    push_closed(text, at)?;
+    text.push_str("\n")
 }
 
-/// How far a Job is, as it is printed: with its result where it has one.
-fn state_text(alloc: Global, job: JobLook) -> Result<String, AllocError> {
+fn push_first_offer(text: &mut String, at: Snapshot) -> Result<(), AllocError> {
+    match at.first_offer {
+        Some(offer) => {
+            let value = offer.value;
+            let place = offer.place;
+            write!(text, ", first {value} at place {place}")
+        }
+        None => Ok(()),
+    }
+}
+
+fn push_first_receiver(text: &mut String, at: Snapshot) -> Result<(), AllocError> {
+    match at.first_receiver {
+        Some(receiver) => {
+            let place = receiver.place;
+            write!(text, ", a receiver waits at place {place}")
+        }
+        None => Ok(()),
+    }
+}
+
+fn push_closed(text: &mut String, at: Snapshot) -> Result<(), AllocError> {
+    match at.closed {
+        Some(value) => write!(text, ", closed with {value}"),
+        None => Ok(()),
+    }
+}
+
+/// Adds what stood at the row of a Job, in words.
+fn push_job(text: &mut String, row: Row, look: Option<JobLook>) -> Result<(), AllocError> {
+    match look {
+        Some(job) => {
+            write!(text, "row {row}: ")?;
+            push_look(text, job)
+        }
+        None => write!(text, "row {row}: not attached\n"),
+    }
+}
+
+fn push_look(text: &mut String, job: JobLook) -> Result<(), AllocError> {
+    push_state(text, job)?;
+    push_cause(text, job.cause)?;
+    text.push_str(if job.body_ended {
+        ", its body has ended"
+    } else {
+        ""
+    })?;
+    let living = job.living;
+    write!(text, ", {living} of its children live\n")
+}
+
+/// Adds how far a Job is, as it is printed: with its result where it has one.
+fn push_state(text: &mut String, job: JobLook) -> Result<(), AllocError> {
     let value = job.value;
     match job.state {
-        JobState::New => format!(in alloc; "new"),
-        JobState::Active => format!(in alloc; "active"),
-        JobState::Completing => format!(in alloc; "completing with {value}"),
-        JobState::Cancelling => format!(in alloc; "cancelling"),
-        JobState::Cancelled => format!(in alloc; "cancelled"),
-        JobState::Completed => format!(in alloc; "completed with {value}"),
+        JobState::Completing => write!(text, "completing with {value}"),
+        JobState::Completed => write!(text, "completed with {value}"),
+        other => text.push_str(word_of(other)),
     }
 }
 
-/// What stood at the row of a Job, in words.
-fn job_hint(alloc: Global, row: Row, look: Option<JobLook>) -> Result<Vec<u8>, AllocError> {
-    let mut text = Vec::new(alloc);
-    let first = format!(in alloc; "row {row}: ")?;
-    text.extend_from_slice(first.as_bytes())?;
-    let Some(job) = look else {
-        text.extend_from_slice(b"not attached\n")?;
-        return Ok(text);
-    };
-    let state = state_text(alloc, job)?;
-    text.extend_from_slice(state.as_bytes())?;
-    if let Cause::Failure(failed) = job.cause {
-        let part = format!(in alloc; " by the failure of {failed}")?;
-        text.extend_from_slice(part.as_bytes())?;
+fn word_of(state: JobState) -> &'static str {
+    match state {
+        JobState::New => "new",
+        JobState::Active => "active",
+        JobState::Completing => "completing",
+        JobState::Cancelling => "cancelling",
+        JobState::Cancelled => "cancelled",
+        JobState::Completed => "completed",
     }
-    if job.body_ended {
-        text.extend_from_slice(b", its body has ended")?;
+}
+
+fn push_cause(text: &mut String, cause: Cause) -> Result<(), AllocError> {
+    match cause {
+        Cause::Failure(failed) => write!(text, " by the failure of {failed}"),
+        _ => Ok(()),
     }
-    let living = job.living;
-    let part = format!(in alloc; ", {living} of its children live\n")?;
-    text.extend_from_slice(part.as_bytes())?;
-    Ok(text)
 }

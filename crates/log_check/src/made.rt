@@ -9,56 +9,82 @@ use crate::polled::{Order, order_by};
 use crate::verdict::{LogVerdict, Logged};
 use co_base::{Gate, Memory, Tag};
 use engine_one::run_in_order;
+use gathered::{Gathered, at, put};
 use note_book::Notes;
 use run_report::report;
 use script_grammar::FaultKind;
 use script_reader::{Script, read};
-use std::alloc::Global;
+use std::alloc::{AllocError, Global};
 
 /// The most bytes that a log may have.
 const LONGEST: usize = 67_108_864;
 
-/// The lines of the coroutines in a report.
-fn lines_by_tag<'a>(
-    alloc: Global,
-    script: &Script,
-    text: &'a str,
-) -> Result<Vec<Vec<&'a str>>, Memory> {
-    let mut lines = Vec::new(alloc);
-    for _ in 0..script.coroutines() {
-        lines.push(Vec::new(alloc))?;
-    }
-    for line in text.lines() {
-        let Some((tag, _)) = line.split_once(' ') else {
-            break;
-        };
-        let Ok(tag) = tag.parse::<u16>() else {
-            break;
-        };
-        if let Some(own) = lines.get_mut(tag as usize) {
-            own.push(line)?;
+/// Where the lines of a text end.
+fn line_ends(alloc: Global, text: &[u8]) -> Result<Vec<usize>, AllocError> {
+    let mut ends = Gathered::new(alloc);
+    let mut place = 0usize;
+    for byte in text {
+        place = place.saturating_add(1);
+        if *byte == b'\n' {
+            ends.add(place);
         }
     }
-    Ok(lines)
+    ends.whole()
+}
+
+/// For each coroutine the number of its first line in a report, which has the lines of the books one behind another.
+fn first_lines(alloc: Global, books: &[Notes]) -> Result<Vec<usize>, AllocError> {
+    let mut firsts = Gathered::new(alloc);
+    let mut first = 0usize;
+    for book in books {
+        firsts.add(first);
+        first = first.saturating_add(book.items().len());
+    }
+    firsts.whole()
+}
+
+/// Adds the line of a text that has this number.
+fn push_line(
+    out: &mut Vec<u8>,
+    text: &[u8],
+    ends: &[usize],
+    line: usize,
+) -> Result<(), AllocError> {
+    let start = match line.checked_sub(1) {
+        Some(before) => at(ends, before, 0),
+        None => 0,
+    };
+    let end = at(ends, line, start);
+    out.extend_from_slice(text.get(start..end).unwrap_or(&[]))
 }
 
 /// The lines of the coroutines, each the next of its own, in the order of these tags.
-fn in_order(alloc: Global, lines: &[Vec<&str>], whose: &[Tag]) -> Result<Vec<u8>, Memory> {
-    let mut told = vec![in alloc; 0usize; lines.len()]?;
+fn in_order(
+    alloc: Global,
+    text: &[u8],
+    ends: &[usize],
+    next: &mut Vec<usize>,
+    whose: &[Tag],
+) -> Result<Vec<u8>, Memory> {
     let mut out = Vec::new(alloc);
     for tag in whose {
-        let Some(place) = told.get_mut(*tag as usize) else {
-            continue;
-        };
-        if let Some(own) = lines.get(*tag as usize) {
-            if let Some(line) = own.get(*place) {
-                out.extend_from_slice(line.as_bytes())?;
-                out.push(b'\n')?;
-            }
-        }
-        *place = place.saturating_add(1);
+        let line = at(next.as_slice(), *tag as usize, usize::MAX);
+        put(next, *tag as usize, line.saturating_add(1));
+        push_line(&mut out, text, ends, line)?;
     }
     Ok(out)
+}
+
+/// The lines of a report in the order of these tags: those of the coroutines, whose books these are.
+fn log_in_order(
+    alloc: Global,
+    report: &[u8],
+    books: &[Notes],
+    whose: &[Tag],
+) -> Result<Vec<u8>, Memory> {
+    let ends = line_ends(alloc, report)?;
+    let mut next = first_lines(alloc, books)?;
+    in_order(alloc, report, ends.as_slice(), &mut next, whose)
 }
 
 /// The text of the log of a run in this order.
@@ -69,11 +95,9 @@ fn text_of<G: Gate>(
     gate: &G,
 ) -> Result<Vec<u8>, Memory> {
     let run = run_in_order::<Notes, G>(alloc, script, gate, order.polls.as_slice())?;
-    let Ok(text) = String::from_utf8(report(alloc, script, &run.done)?) else {
-        return Err(Memory);
-    };
-    let lines = lines_by_tag(alloc, script, text.as_str())?;
-    in_order(alloc, lines.as_slice(), order.whose.as_slice())
+    let told = report(alloc, script, &run.done)?;
+    let books = run.done.books.as_slice();
+    log_in_order(alloc, told.as_slice(), books, order.whose.as_slice())
 }
 
 /// The text of a log of a run in this order, judged.

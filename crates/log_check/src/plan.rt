@@ -1,15 +1,21 @@
 //! What the lines of a report say of the whole run, before any of them is written. Nothing is claimed of it.
 
+use crate::rows::NO_ROW;
+use crate::sleepers::UNKNOWN;
 use channel_model::{Act, ChannelNote, Kind, Settled};
 use co_base::{ChannelId, Memory, Place, Row, Tag, WaitId};
+use gathered::{at, put};
 use history_text::Line;
 use job_model::{JobAct, JobNote};
 use note_book::Item;
 use script_reader::Script;
 use std::alloc::Global;
 
+/// A place that no line begins, and a line that there is not.
+pub(crate) const NOWHERE: u32 = u32::MAX;
+
 /// How a place is begun.
-#[derive(Clone, Copy, PartialEq)]
+#[derive(Clone, Copy)]
 pub(crate) enum Begins {
     /// No line says it.
     Unsaid,
@@ -19,6 +25,16 @@ pub(crate) enum Begins {
     WhenFull,
     /// By a receiver that waits.
     Receiver,
+}
+
+impl Begins {
+    pub(crate) fn is_element(self) -> bool {
+        matches!(self, Begins::WithRoom | Begins::WhenFull)
+    }
+
+    pub(crate) fn is_receiver(self) -> bool {
+        matches!(self, Begins::Receiver)
+    }
 }
 
 /// What is said of one place.
@@ -33,6 +49,14 @@ pub(crate) struct PlacePlan {
     pub(crate) before_full: u32,
 }
 
+const NO_PLACE: PlacePlan = PlacePlan {
+    c: ChannelId::MAX,
+    begins: Begins::Unsaid,
+    mate: NOWHERE,
+    before: 0,
+    before_full: u32::MAX,
+};
+
 /// What is said of one channel.
 #[derive(Clone, Copy)]
 pub(crate) struct ChannelPlan {
@@ -45,6 +69,21 @@ pub(crate) struct ChannelPlan {
     pub(crate) empties: u32,
     pub(crate) fulls: u32,
 }
+
+/// A channel that there is not.
+const NO_CHANNEL: ChannelPlan = ChannelPlan {
+    keeps: u32::MAX,
+    ..UNUSED
+};
+
+/// A channel of which no line tells, and which keeps nothing.
+const UNUSED: ChannelPlan = ChannelPlan {
+    keeps: 0,
+    from: 0,
+    count: 0,
+    empties: 0,
+    fulls: 0,
+};
 
 /// What is said of all.
 #[derive(Drop)]
@@ -105,117 +144,157 @@ fn beginning_of(item: Item, next: Option<Item>) -> Begins {
     }
 }
 
-/// The channels before their lines are counted.
-fn channels_of(alloc: Global, script: &Script) -> Result<Vec<ChannelPlan>, Memory> {
-    let mut channels = Vec::new(alloc);
-    let none = ChannelPlan {
-        keeps: 0,
-        from: 0,
-        count: 0,
-        empties: 0,
-        fulls: 0,
-    };
-    for channel in script.channels() {
-        let keeps = keeps_of(channel.kind);
-        channels.push(ChannelPlan { keeps, ..none })?;
+/// The wait for which a place was begun, if it was for one, and the place.
+#[derive(Clone, Copy)]
+struct Waiting {
+    wait: Option<WaitId>,
+    at: u32,
+}
+
+const NOT_WAITING: Waiting = Waiting {
+    wait: None,
+    at: NOWHERE,
+};
+
+impl Waiting {
+    /// Whether it is this wait.
+    fn is_of(self, wait: Option<WaitId>) -> bool {
+        match (self.wait, wait) {
+            (Some(one), Some(other)) => one == other,
+            _ => false,
+        }
     }
-    for _ in 0..script.jobs() {
-        channels.push(none)?;
+}
+
+/// The channels before their lines are counted: those that the script declares, and those of its Jobs.
+fn channels_of(alloc: Global, script: &Script) -> Result<Vec<ChannelPlan>, Memory> {
+    let declared = script.channels();
+    let count = declared.len().saturating_add(script.jobs() as usize);
+    let mut channels = vec![in alloc; UNUSED; count]?;
+    let mut c = 0usize;
+    for channel in declared {
+        let keeps = keeps_of(channel.kind);
+        put(&mut channels, c, ChannelPlan { keeps, ..UNUSED });
+        c = c.saturating_add(1);
     }
     Ok(channels)
 }
 
-/// Where the lines of each coroutine stand.
-fn own_of(alloc: Global, coroutines: u16, lines: &[Line]) -> Result<Vec<Vec<u32>>, Memory> {
-    let mut own = Vec::with_capacity(alloc, coroutines as usize)?;
-    for _ in 0..coroutines {
+/// So many lists with nothing in them.
+fn no_lines(alloc: Global, count: u16) -> Result<Vec<Vec<u32>>, Memory> {
+    let mut own = Vec::with_capacity(alloc, count as usize)?;
+    for _ in 0..count {
         own.push(Vec::new(alloc))?;
     }
-    for (at, line) in lines.iter().enumerate() {
-        let Ok(at) = u32::try_from(at) else {
-            break;
-        };
-        if let Some(places) = own.get_mut(line.who as usize) {
-            places.push(at)?;
-        }
-    }
     Ok(own)
+}
+
+/// Tells where the lines of each coroutine stand.
+fn read_own(own: &mut Vec<Vec<u32>>, lines: &[Line]) -> Result<(), Memory> {
+    let mut place = 0u32;
+    for line in lines {
+        let who = line.who as usize;
+        if who < own.len() {
+            own[who].push(place)?;
+        }
+        place = place.saturating_add(1);
+    }
+    Ok(())
+}
+
+/// Adds the places of a channel.
+fn add_places(
+    places: &mut Vec<PlacePlan>,
+    c: ChannelId,
+    channel: &ChannelPlan,
+) -> Result<(), Memory> {
+    let mut mate = channel.from;
+    for _ in 0..channel.count {
+        places.push(PlacePlan {
+            c,
+            mate,
+            ..NO_PLACE
+        })?;
+        mate = mate.saturating_add(1);
+    }
+    Ok(())
 }
 
 impl Plan {
     /// What these lines say.
     pub(crate) fn new(alloc: Global, script: &Script, lines: &[Line]) -> Result<Plan, Memory> {
         let mut plan = Plan {
-            own: own_of(alloc, script.coroutines(), lines)?,
+            own: no_lines(alloc, script.coroutines())?,
             inner: vec![in alloc; 0u16; lines.len()]?,
             channels: channels_of(alloc, script)?,
             places: Vec::new(alloc),
             declared: script.channels().len(),
         };
-        for line in lines {
-            plan.count(line.item);
-        }
-        plan.lay_out()?;
-        for tag in 0..script.coroutines() {
-            plan.read(alloc, lines, tag)?;
-        }
-        plan.count_elements();
-        plan.look_ahead();
+        plan.read_lines(alloc, lines, script.coroutines())?;
         Ok(plan)
     }
 
-    fn count(&mut self, item: Item) {
-        if let Some((c, _)) = begun_by(item) {
-            if let Some(channel) = self.channels.get_mut(c as usize) {
-                channel.count = channel.count.saturating_add(1);
+    fn read_lines(&mut self, alloc: Global, lines: &[Line], coroutines: u16) -> Result<(), Memory> {
+        read_own(&mut self.own, lines)?;
+        self.count_lines(lines);
+        self.lay_out()?;
+        self.read_all(alloc, lines, coroutines)?;
+        self.count_elements();
+        self.look_ahead();
+        Ok(())
+    }
+
+    /// Counts for each channel the places, and the lines that say that it is empty or full.
+    fn count_lines(&mut self, lines: &[Line]) {
+        for line in lines {
+            if let Item::Channel(note) = line.item {
+                self.count(note);
             }
         }
-        match item {
-            Item::Channel(ChannelNote::Empty { c }) => {
-                if let Some(channel) = self.channels.get_mut(c as usize) {
-                    channel.empties = channel.empties.saturating_add(1);
-                }
-            }
-            Item::Channel(ChannelNote::Full { c, .. }) => {
-                if let Some(channel) = self.channels.get_mut(c as usize) {
-                    channel.fulls = channel.fulls.saturating_add(1);
-                }
-            }
-            _ => {}
+    }
+
+    fn count(&mut self, note: ChannelNote) {
+        let (c, begun, empties, fulls) = match note {
+            ChannelNote::Made(Act::Put { c, .. } | Act::Offer { c, .. } | Act::Await { c, .. }) => (
+                c, 1, 0, 0,
+            ),
+            ChannelNote::Empty { c } => (c, 0, 1, 0),
+            ChannelNote::Full { c, .. } => (c, 0, 0, 1),
+            _ => return,
+        };
+        let place = c as usize;
+        if place < self.channels.len() {
+            let channel = &mut self.channels[place];
+            channel.count = channel.count.saturating_add(begun);
+            channel.empties = channel.empties.saturating_add(empties);
+            channel.fulls = channel.fulls.saturating_add(fulls);
         }
     }
 
     /// Gives each channel its places.
     fn lay_out(&mut self) -> Result<(), Memory> {
+        let mut c = 0u16;
         let mut from = 0u32;
-        for (c, channel) in self.channels.iter_mut().enumerate() {
-            let c = ChannelId::try_from(c).ok().unwrap_or(0);
+        for channel in self.channels.iter_mut() {
             channel.from = from;
-            for _ in 0..channel.count {
-                self.places.push(PlacePlan {
-                    c,
-                    begins: Begins::Unsaid,
-                    mate: from,
-                    before: 0,
-                    before_full: u32::MAX,
-                })?;
-                from = from.saturating_add(1);
-            }
+            from = from.saturating_add(channel.count);
+            add_places(&mut self.places, c, channel)?;
+            c = c.saturating_add(1);
         }
         Ok(())
     }
 
     /// Counts the elements that come before each place.
     fn count_elements(&mut self) {
-        let mut last = None;
+        let mut last = ChannelId::MAX;
         let mut before = 0u32;
         for place in self.places.iter_mut() {
-            if last != Some(place.c) {
+            if last != place.c {
                 before = 0;
             }
-            last = Some(place.c);
+            last = place.c;
             place.before = before;
-            if place.begins != Begins::Receiver {
+            if !place.begins.is_receiver() {
                 before = before.saturating_add(1);
             }
         }
@@ -223,124 +302,167 @@ impl Plan {
 
     /// Looks from each place on for the first at which its channel is full.
     fn look_ahead(&mut self) {
-        let mut last = None;
+        let mut last = ChannelId::MAX;
         let mut full = u32::MAX;
         for place in self.places.iter_mut().rev() {
-            if last != Some(place.c) {
+            if last != place.c {
                 full = u32::MAX;
             }
-            last = Some(place.c);
-            if place.begins == Begins::WhenFull {
+            last = place.c;
+            if matches!(place.begins, Begins::WhenFull) {
                 full = place.before;
             }
             place.before_full = full;
         }
     }
 
-    /// Reads the lines of one coroutine.
-    fn read(&mut self, alloc: Global, lines: &[Line], tag: Tag) -> Result<(), Memory> {
+    /// Reads the lines of all coroutines.
+    fn read_all(&mut self, alloc: Global, lines: &[Line], coroutines: u16) -> Result<(), Memory> {
         let mut inside = Vec::new(alloc);
-        inside.push(tag)?;
-        let mut last = None;
-        let count = self.own_count(tag);
-        for number in 0..count {
-            let Some(at) = self.line_of(tag, number) else {
-                continue;
-            };
-            let Some(item) = item_at(lines, at) else {
-                continue;
-            };
-            let next = match self.line_of(tag, number.saturating_add(1)) {
-                Some(further) => item_at(lines, further),
-                None => None,
-            };
-            self.begin(item, next, &mut last);
-            let row = inside.last().copied().unwrap_or(tag);
-            if let Some(inner) = self.inner.get_mut(at) {
-                *inner = row;
-            }
-            enter_or_leave(&mut inside, item, tag)?;
+        for tag in 0..coroutines {
+            inside.clear();
+            inside.push(tag)?;
+            self.read(lines, tag, &mut inside)?;
         }
         Ok(())
     }
 
-    /// Notes how an item begins a place; `last` is the place that the item before it began, and its wait.
-    fn begin(&mut self, item: Item, next: Option<Item>, last: &mut Option<(WaitId, u32)>) {
-        let Some((c, place)) = begun_by(item) else {
-            *last = None;
-            return;
-        };
-        let Some(at) = self.place_at(c, place) else {
-            return;
-        };
-        let how = beginning_of(item, next);
-        let mut mate = at;
-        if let (Some((w, before)), Some(main)) = (*last, wait_of(item)) {
-            if w == main {
-                if let Some(other) = self.places.get_mut(before as usize) {
-                    mate = other.mate;
-                    other.mate = at;
-                }
+    /// Reads the lines of one coroutine, which is inside its own Job at first.
+    fn read(&mut self, lines: &[Line], tag: Tag, inside: &mut Vec<Row>) -> Result<(), Memory> {
+        let mut last = NOT_WAITING;
+        for number in 0..self.own_count(tag) {
+            let place = self.line_of(tag, number) as usize;
+            if place < lines.len() {
+                let item = lines[place].item;
+                let next = item_at(lines, self.line_of(tag, number.saturating_add(1)));
+                self.begin(item, next, &mut last);
+                put(&mut self.inner, place, last_of(inside.as_slice(), tag));
+                enter_or_leave(inside, item, tag)?;
             }
         }
-        if let Some(planned) = self.places.get_mut(at as usize) {
-            planned.begins = how;
-            planned.mate = mate;
-        }
-        *last = match wait_of(item) {
-            Some(main) => Some((main, at)),
-            None => None,
+        Ok(())
+    }
+
+    /// Notes how an item begins a place; `last` is the wait of the item before it, and the place that it began.
+    fn begin(&mut self, item: Item, next: Option<Item>, last: &mut Waiting) {
+        let Some((c, place)) = begun_by(item) else {
+            *last = NOT_WAITING;
+            return;
         };
+        let place_at = self.place_at(c, place);
+        if place_at == NOWHERE {
+            return;
+        }
+        let wait = wait_of(item);
+        let mate = if last.is_of(wait) {
+            self.set_mate(last.at, place_at)
+        } else {
+            place_at
+        };
+        *last = Waiting { wait, at: place_at };
+        let begins = beginning_of(item, next);
+        let planned = self.place(place_at);
+        put(
+            &mut self.places,
+            place_at as usize,
+            PlacePlan {
+                begins,
+                mate,
+                ..planned
+            },
+        );
+    }
+
+    /// Makes a place the next of the wait of another. The answer is the one that was next before.
+    fn set_mate(&mut self, place: u32, mate: u32) -> u32 {
+        let planned = self.place(place);
+        put(
+            &mut self.places,
+            place as usize,
+            PlacePlan { mate, ..planned },
+        );
+        planned.mate
     }
 
     /// How many lines a coroutine has.
     pub(crate) fn own_count(&self, tag: Tag) -> usize {
+        self.own_lines(tag).len()
+    }
+
+    /// Where the lines of a coroutine stand.
+    fn own_lines(&self, tag: Tag) -> &[u32] {
         match self.own.get(tag as usize) {
-            Some(own) => own.len(),
-            None => 0,
+            Some(own) => own.as_slice(),
+            None => &[],
         }
     }
 
-    /// Where the line of a coroutine stands that has this number among its own.
-    pub(crate) fn line_of(&self, tag: Tag, number: usize) -> Option<usize> {
-        let own = self.own.get(tag as usize)?;
-        let at = own.get(number).copied()?;
-        Some(at as usize)
+    /// Where the line of a coroutine stands that has this number among its own; `NOWHERE`, if it has none.
+    pub(crate) fn line_of(&self, tag: Tag, number: usize) -> u32 {
+        at(self.own_lines(tag), number, NOWHERE)
     }
 
     /// The innermost Job of its coroutine at a line.
-    pub(crate) fn inner_of(&self, at: usize) -> Row {
-        self.inner.get(at).copied().unwrap_or(0)
+    pub(crate) fn inner_of(&self, line: usize) -> Row {
+        at(self.inner.as_slice(), line, 0)
     }
 
-    /// Where a place stands among those of all channels, if a line begins it.
-    pub(crate) fn place_at(&self, c: ChannelId, place: Place) -> Option<u32> {
-        let channel = self.channels.get(c as usize)?;
+    pub(crate) fn channel(&self, c: ChannelId) -> ChannelPlan {
+        at(self.channels.as_slice(), c as usize, NO_CHANNEL)
+    }
+
+    /// Where a place stands among those of all channels; `NOWHERE`, if no line begins it.
+    pub(crate) fn place_at(&self, c: ChannelId, place: Place) -> u32 {
+        let channel = self.channel(c);
         if place < channel.count {
-            Some(channel.from.saturating_add(place))
+            channel.from.saturating_add(place)
         } else {
-            None
+            NOWHERE
         }
     }
 
     /// What is said of the place that stands there.
-    pub(crate) fn place(&self, at: u32) -> Option<PlacePlan> {
-        self.places.get(at as usize).copied()
+    pub(crate) fn place(&self, place_at: u32) -> PlacePlan {
+        at(self.places.as_slice(), place_at as usize, NO_PLACE)
     }
 
-    /// The Job that may not be Cancelling when a line is written that stands there, if there is one.
-    pub(crate) fn needs_calm(&self, item: Item, at: usize) -> Option<Row> {
-        let Item::Channel(ChannelNote::Made(Act::Settle { w, outcome })) = item else {
-            return None;
-        };
-        let row = self.inner_of(at);
-        let leaves = (w.channel as usize) == self.declared.saturating_add(row as usize);
-        match outcome {
-            Settled::Value(_, _) | Settled::Sent(_) | Settled::Closed(_, _) => {
-                if leaves { None } else { Some(row) }
-            }
-            Settled::Cancelled | Settled::Undelivered(_) => None,
+    /// The number of a place among all things that coroutines wait for: places, then channels, then Jobs.
+    pub(crate) fn thing_of_place(&self, place_at: u32) -> usize {
+        if place_at == NOWHERE {
+            UNKNOWN
+        } else {
+            place_at as usize
         }
+    }
+
+    pub(crate) fn thing_of_channel(&self, c: ChannelId) -> usize {
+        self.places.len().saturating_add(c as usize)
+    }
+
+    pub(crate) fn thing_of_job(&self, row: Row) -> usize {
+        let channels = self.channels.len();
+        self.places
+            .len()
+            .saturating_add(channels)
+            .saturating_add(row as usize)
+    }
+
+    /// The row of the Job that may not be Cancelling when a line is written that stands there; `NO_ROW`, if there is none.
+    pub(crate) fn needs_calm(&self, item: Item, line: usize) -> Row {
+        let Item::Channel(
+            ChannelNote::Made(
+                Act::Settle {
+                    w,
+                    outcome: Settled::Value(_, _) | Settled::Sent(_) | Settled::Closed(_, _),
+                },
+            ),
+        ) = item
+        else {
+            return NO_ROW;
+        };
+        let row = self.inner_of(line);
+        let leaves = (w.channel as usize) == self.declared.saturating_add(row as usize);
+        if leaves { NO_ROW } else { row }
     }
 
     /// The done channel of a row.
@@ -350,9 +472,18 @@ impl Plan {
     }
 }
 
-fn item_at(lines: &[Line], at: usize) -> Option<Item> {
-    let line = lines.get(at)?;
-    Some(line.item)
+/// The last of some rows; the other, if there is none.
+fn last_of(rows: &[Row], other: Row) -> Row {
+    at(rows, rows.len().saturating_sub(1), other)
+}
+
+fn item_at(lines: &[Line], line: u32) -> Option<Item> {
+    let place = line as usize;
+    if place < lines.len() {
+        Some(lines[place].item)
+    } else {
+        None
+    }
 }
 
 /// Keeps the scopes that a coroutine is inside, and its own Job below them.
@@ -373,7 +504,7 @@ fn enter_or_leave(inside: &mut Vec<Row>, item: Item, tag: Tag) -> Result<(), Mem
             }
         }
         Item::Job(JobNote::SawEnd { row, .. }) => {
-            if inside.len() > 1 && inside.last().copied() == Some(row) {
+            if inside.len() > 1 && last_of(inside.as_slice(), tag) == row {
                 let _left = inside.pop();
             }
         }

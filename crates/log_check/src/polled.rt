@@ -6,6 +6,7 @@ ghost use Rattle.engine_one.specs.Trials.{TrialStands};
 
 use co_base::{Gate, Memory, Tag};
 use engine_one::Trial;
+use gathered::Gathered;
 use note_book::Notes;
 use script_reader::Script;
 use std::alloc::Global;
@@ -14,7 +15,7 @@ use std::alloc::Global;
 #[derive(Drop)]
 struct Polled {
     trial: Trial<Notes>,
-    whose: Vec<Tag>,
+    whose: Gathered<Tag>,
     state: u64,
 }
 
@@ -47,11 +48,10 @@ fn next_of(state: &mut u64, script: &Script, last: Tag) -> Tag {
 }
 
 /// Adds a tag so many times.
-fn push_times(whose: &mut Vec<Tag>, tag: Tag, times: usize) -> Result<(), Memory> {
+fn add_times(whose: &mut Gathered<Tag>, tag: Tag, times: usize) {
     for _ in 0..times {
-        whose.push(tag)?;
+        whose.add(tag);
     }
-    Ok(())
 }
 
 /// Polls this coroutine, and says whether it did anything.
@@ -69,7 +69,7 @@ fn poll_one<G: Gate>(
         return Ok(false);
     };
     let after = written_by(&polled.trial, tag);
-    push_times(&mut polled.whose, tag, after.saturating_sub(before))?;
+    add_times(&mut polled.whose, tag, after.saturating_sub(before));
     Ok(true)
 }
 
@@ -117,17 +117,23 @@ pub(crate) fn order_by<G: Gate>(
     seed: u32,
     gate: &G,
 ) -> Result<Order, Memory> {
-    let trial = Trial::new(alloc, script)?;
-    let mut whose = Vec::new(alloc);
-    push_times(&mut whose, 0, written_by(&trial, 0))?;
     let mut polled = Polled {
-        trial,
-        whose,
+        trial: Trial::new(alloc, script)?,
+        whose: Gathered::new(alloc),
         state: u64::from(seed),
     };
+    let written = written_by(&polled.trial, 0);
+    add_times(&mut polled.whose, 0, written);
     run_out(&mut polled, script, gate)?;
-    Ok(Order {
-        polls: Vec::from_slice(alloc, polled.trial.made())?,
-        whose: polled.whose,
-    })
+    order_of(alloc, &polled)
+}
+
+/// The order of the polls and notes of a run.
+fn order_of(alloc: Global, polled: &Polled) -> Result<Order, Memory> {
+    if !polled.whose.is_whole() {
+        return Err(Memory);
+    }
+    let polls = Vec::from_slice(alloc, polled.trial.made())?;
+    let whose = Vec::from_slice(alloc, polled.whose.as_slice())?;
+    Ok(Order { polls, whose })
 }

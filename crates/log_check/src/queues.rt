@@ -1,8 +1,9 @@
 //! What stands in the channels of a run, as its lines say. Nothing is claimed of it.
 
-use crate::plan::{Begins, Plan};
-use crate::sleepers::Until;
+use crate::plan::{Begins, NOWHERE, Plan};
+use crate::sleepers::UNKNOWN;
 use co_base::{ChannelId, Memory, Place, WaitId};
+use gathered::{Gathered, at, put};
 use std::alloc::Global;
 
 /// How many clauses a select has at most, and one more.
@@ -21,14 +22,42 @@ struct Queue {
     fulls: u32,
 }
 
-/// A change, which can be taken back.
+/// What happens to a channel.
 #[derive(Clone, Copy)]
-pub(crate) enum Change {
-    Begun(u32),
-    Ended(u32),
-    Closed(ChannelId),
-    SaidEmpty(ChannelId),
-    SaidFull(ChannelId),
+pub(crate) enum Step {
+    /// A place is begun, or ended.
+    Begun,
+    Ended,
+    Closed,
+    SaidEmpty,
+    SaidFull,
+}
+
+/// A change of a channel, which can be taken back, and the place that is begun or ended, if one is.
+#[derive(Clone, Copy)]
+pub(crate) struct Change {
+    pub(crate) c: ChannelId,
+    pub(crate) at: u32,
+    pub(crate) step: Step,
+}
+
+/// No change: there is no such channel.
+pub(crate) const NO_CHANGE: Change = Change {
+    c: ChannelId::MAX,
+    at: NOWHERE,
+    step: Step::Closed,
+};
+
+impl Change {
+    /// Whether it is one of a place.
+    pub(crate) fn is_of_place(self) -> bool {
+        matches!(self.step, Step::Begun | Step::Ended)
+    }
+
+    /// Whether a place stands behind it, if it is one of a place.
+    fn stands(self, back: bool) -> bool {
+        matches!(self.step, Step::Begun) != back
+    }
 }
 
 /// All channels.
@@ -56,6 +85,25 @@ pub(crate) fn moved(number: u32, up: bool) -> u32 {
     }
 }
 
+impl Queue {
+    /// Takes a change of the channel, of which a place has this number among its own.
+    fn take(&mut self, change: Change, place: u32, back: bool) {
+        match change.step {
+            Step::Begun => {
+                self.standing = moved(self.standing, !back);
+                self.next = moved(self.next, !back);
+            }
+            Step::Ended => self.standing = moved(self.standing, back),
+            Step::Closed => self.closed = !back,
+            Step::SaidEmpty => self.empties = moved(self.empties, back),
+            Step::SaidFull => self.fulls = moved(self.fulls, back),
+        }
+        if back && change.is_of_place() {
+            self.first = self.first.min(place);
+        }
+    }
+}
+
 impl Queues {
     /// Before the first line.
     pub(crate) fn new(alloc: Global, plan: &Plan) -> Result<Queues, Memory> {
@@ -74,43 +122,40 @@ impl Queues {
     }
 
     fn queue(&self, c: ChannelId) -> Queue {
-        self.queues.get(c as usize).copied().unwrap_or(NO_QUEUE)
+        at(self.queues.as_slice(), c as usize, NO_QUEUE)
     }
 
-    fn stands_at(&self, at: u32) -> bool {
-        self.stands.get(at as usize).copied().unwrap_or(false)
+    fn stands_at(&self, place: u32) -> bool {
+        at(self.stands.as_slice(), place as usize, false)
     }
 
     pub(crate) fn is_closed(&self, c: ChannelId) -> bool {
         self.queue(c).closed
     }
 
-    /// The first place that stands in a channel.
-    fn first(&mut self, plan: &Plan, c: ChannelId) -> Option<u32> {
-        let planned = plan.channels.get(c as usize).copied()?;
-        let queue = self.queues.get_mut(c as usize)?;
+    /// The first place that stands in a channel; `NOWHERE`, if none does.
+    fn first(&mut self, plan: &Plan, c: ChannelId) -> u32 {
+        let queue = self.queue(c);
+        let from = plan.channel(c).from;
+        let mut first = queue.first;
         for _ in queue.first..queue.next {
-            let at = planned.from.saturating_add(queue.first);
-            if self.stands.get(at as usize).copied().unwrap_or(false) {
-                return Some(at);
+            if self.stands_at(from.saturating_add(first)) {
+                break;
             }
-            queue.first = queue.first.saturating_add(1);
+            first = first.saturating_add(1);
         }
-        None
+        put(&mut self.queues, c as usize, Queue { first, ..queue });
+        if first < queue.next {
+            from.saturating_add(first)
+        } else {
+            NOWHERE
+        }
     }
 
-    /// Whether elements stand in a channel, and whether receivers do.
-    pub(crate) fn holds(&mut self, plan: &Plan, c: ChannelId) -> (bool, bool) {
-        match self.first(plan, c) {
-            Some(at) => match plan.place(at) {
-                Some(place) => (
-                    place.begins != Begins::Receiver,
-                    place.begins == Begins::Receiver,
-                ),
-                None => (false, false),
-            },
-            None => (false, false),
-        }
+    /// How the first place was begun that stands in a channel: all that stand there were begun by elements, or all by receivers.
+    pub(crate) fn front(&mut self, plan: &Plan, c: ChannelId) -> Begins {
+        let first = self.first(plan, c);
+        plan.place(first).begins
     }
 
     pub(crate) fn standing(&self, c: ChannelId) -> u32 {
@@ -119,16 +164,32 @@ impl Queues {
 
     /// Whether an element that comes to a channel is one too many to be kept.
     pub(crate) fn is_full(&self, plan: &Plan, c: ChannelId) -> bool {
-        match plan.channels.get(c as usize) {
-            Some(planned) => planned.keeps <= self.queue(c).standing,
-            None => false,
-        }
+        plan.channel(c).keeps <= self.queue(c).standing
     }
 
-    /// How many lines are left that say that a channel is empty, and that it is full.
-    pub(crate) fn left_to_say(&self, c: ChannelId) -> (u32, u32) {
-        let queue = self.queue(c);
-        (queue.empties, queue.fulls)
+    /// Whether nothing can be received of a channel any more.
+    pub(crate) fn is_drained(&mut self, plan: &Plan, c: ChannelId) -> bool {
+        self.is_closed(c) && !self.front(plan, c).is_element()
+    }
+
+    /// Whether nothing can be received of an open channel.
+    pub(crate) fn is_empty(&mut self, plan: &Plan, c: ChannelId) -> bool {
+        !self.is_closed(c) && !self.front(plan, c).is_element()
+    }
+
+    /// Whether an open channel has no room for an element, and no receiver.
+    pub(crate) fn has_no_room(&mut self, plan: &Plan, c: ChannelId) -> bool {
+        !self.is_closed(c) && self.is_full(plan, c) && !self.front(plan, c).is_receiver()
+    }
+
+    /// How many lines are left that say that a channel is empty.
+    pub(crate) fn empties(&self, c: ChannelId) -> u32 {
+        self.queue(c).empties
+    }
+
+    /// How many lines are left that say that a channel is full.
+    pub(crate) fn fulls(&self, c: ChannelId) -> u32 {
+        self.queue(c).fulls
     }
 
     /// Whether an element, or a receiver, may come to a place.
@@ -137,44 +198,37 @@ impl Queues {
         if queue.closed || queue.next != place {
             return false;
         }
-        let (elements, receivers) = self.holds(plan, c);
-        let Some(at) = plan.place_at(c, place) else {
-            return false;
-        };
-        let Some(planned) = plan.place(at) else {
-            return false;
-        };
-        match planned.begins {
-            Begins::Receiver => !elements,
-            Begins::WhenFull => !receivers && self.is_full(plan, c),
-            Begins::WithRoom => !receivers && !self.is_full(plan, c),
+        let front = self.front(plan, c);
+        let full = self.is_full(plan, c);
+        match plan.place(plan.place_at(c, place)).begins {
+            Begins::Receiver => !front.is_element(),
+            Begins::WhenFull => !front.is_receiver() && full,
+            Begins::WithRoom => !front.is_receiver() && !full,
             Begins::Unsaid => false,
         }
     }
 
-    /// What has to happen before a place can be begun.
-    pub(crate) fn until_begun(&self, plan: &Plan, c: ChannelId, place: Place) -> Until {
+    /// The number of what has to happen before a place can be begun.
+    pub(crate) fn until_begun(&self, plan: &Plan, c: ChannelId, place: Place) -> usize {
         if self.queue(c).next < place {
-            match plan.place_at(c, place.saturating_sub(1)) {
-                Some(at) => Until::Place(at),
-                None => Until::Unknown,
-            }
+            plan.thing_of_place(plan.place_at(c, place.saturating_sub(1)))
         } else {
-            Until::Channel(c)
+            plan.thing_of_channel(c)
         }
     }
 
-    /// What has to happen before a place is the first of its channel.
-    pub(crate) fn until_first(&mut self, plan: &Plan, c: ChannelId, place: Place) -> Until {
-        let Some(at) = plan.place_at(c, place) else {
-            return Until::Unknown;
-        };
-        if self.queue(c).next <= place {
-            return Until::Place(at);
-        }
-        match self.first(plan, c) {
-            Some(first) if first != at => Until::Place(first),
-            _ => Until::Channel(c),
+    /// The number of what has to happen before a place is the first of its channel.
+    pub(crate) fn until_first(&mut self, plan: &Plan, c: ChannelId, place: Place) -> usize {
+        let place_at = plan.place_at(c, place);
+        let first = self.first(plan, c);
+        if place_at == NOWHERE {
+            UNKNOWN
+        } else if self.queue(c).next <= place {
+            plan.thing_of_place(place_at)
+        } else if first == NOWHERE || first == place_at {
+            plan.thing_of_channel(c)
+        } else {
+            plan.thing_of_place(first)
         }
     }
 
@@ -186,34 +240,26 @@ impl Queues {
         place: Place,
         receiver: bool,
     ) -> bool {
-        let Some(at) = plan.place_at(c, place) else {
-            return false;
-        };
-        if self.first(plan, c) != Some(at) {
-            return false;
-        }
-        let is_receiver = match plan.place(at) {
-            Some(planned) => planned.begins == Begins::Receiver,
-            None => false,
-        };
-        is_receiver == receiver && self.may_leave(plan, at)
+        let place_at = plan.place_at(c, place);
+        place_at != NOWHERE
+            && self.first(plan, c) == place_at
+            && plan.place(place_at).begins.is_receiver() == receiver
+            && self.may_leave(plan, place_at)
     }
 
     /// Whether all places of a wait may leave: none of them is what makes its channel full for the element that comes next.
     fn may_leave(&self, plan: &Plan, first: u32) -> bool {
-        let mut at = first;
+        let mut place_at = first;
         for _ in 0..CLAUSES {
-            let Some(place) = plan.place(at) else {
-                return false;
-            };
-            if place.begins != Begins::Receiver
-                && self.stands_at(at)
+            let place = plan.place(place_at);
+            if !place.begins.is_receiver()
+                && self.stands_at(place_at)
                 && self.is_needed(plan, place.c)
             {
                 return false;
             }
-            at = place.mate;
-            if at == first {
+            place_at = place.mate;
+            if place_at == first {
                 break;
             }
         }
@@ -222,85 +268,38 @@ impl Queues {
 
     /// The same of a wait by its name.
     pub(crate) fn wait_may_leave(&self, plan: &Plan, w: WaitId) -> bool {
-        match plan.place_at(w.channel, w.place) {
-            Some(at) => self.may_leave(plan, at),
-            None => false,
-        }
+        let first = plan.place_at(w.channel, w.place);
+        first != NOWHERE && self.may_leave(plan, first)
     }
 
     /// Whether no element may leave a channel before more come: for the first that is to come while it is full, as many have to stand as it
     /// keeps.
     fn is_needed(&self, plan: &Plan, c: ChannelId) -> bool {
         let queue = self.queue(c);
-        let Some(planned) = plan.channels.get(c as usize) else {
-            return false;
-        };
-        if queue.next >= planned.count {
-            return false;
-        }
-        let Some(next) = plan.place(planned.from.saturating_add(queue.next)) else {
-            return false;
-        };
-        if next.before_full == u32::MAX {
-            return false;
-        }
+        let planned = plan.channel(c);
+        let next = plan.place(planned.from.saturating_add(queue.next));
         let ended = next.before.saturating_sub(queue.standing);
-        ended.saturating_add(planned.keeps) >= next.before_full
+        queue.next < planned.count
+            && next.before_full != u32::MAX
+            && ended.saturating_add(planned.keeps) >= next.before_full
     }
 
     /// Whether no line is left that needs a channel open.
     pub(crate) fn may_close(&self, plan: &Plan, c: ChannelId) -> bool {
         let queue = self.queue(c);
-        let count = match plan.channels.get(c as usize) {
-            Some(planned) => planned.count,
-            None => 0,
-        };
+        let count = plan.channel(c).count;
         !queue.closed && queue.next == count && queue.empties == 0 && queue.fulls == 0
     }
 
     /// Makes a change, or takes it back.
     pub(crate) fn change(&mut self, plan: &Plan, change: Change, back: bool) {
-        match change {
-            Change::Begun(at) => self.begin_or_end(plan, at, true, back),
-            Change::Ended(at) => self.begin_or_end(plan, at, false, back),
-            Change::Closed(c) => {
-                if let Some(queue) = self.queues.get_mut(c as usize) {
-                    queue.closed = !back;
-                }
-            }
-            Change::SaidEmpty(c) => {
-                if let Some(queue) = self.queues.get_mut(c as usize) {
-                    queue.empties = moved(queue.empties, back);
-                }
-            }
-            Change::SaidFull(c) => {
-                if let Some(queue) = self.queues.get_mut(c as usize) {
-                    queue.fulls = moved(queue.fulls, back);
-                }
-            }
+        let c = change.c as usize;
+        if change.is_of_place() {
+            put(&mut self.stands, change.at as usize, change.stands(back));
         }
-    }
-
-    fn begin_or_end(&mut self, plan: &Plan, at: u32, begins: bool, back: bool) {
-        let Some(place) = plan.place(at) else {
-            return;
-        };
-        let Some(planned) = plan.channels.get(place.c as usize) else {
-            return;
-        };
-        let stands = begins != back;
-        if let Some(there) = self.stands.get_mut(at as usize) {
-            *there = stands;
-        }
-        let Some(queue) = self.queues.get_mut(place.c as usize) else {
-            return;
-        };
-        queue.standing = moved(queue.standing, stands);
-        if begins {
-            queue.next = moved(queue.next, !back);
-        }
-        if back {
-            queue.first = queue.first.min(at.saturating_sub(planned.from));
+        if c < self.queues.len() {
+            let place = change.at.saturating_sub(plan.channel(change.c).from);
+            self.queues[c].take(change, place, back);
         }
     }
 
@@ -309,22 +308,23 @@ impl Queues {
         &self,
         plan: &Plan,
         first: u32,
-        kept: Option<u32>,
-        changes: &mut Vec<Change>,
-    ) -> Result<(), Memory> {
-        let mut at = first;
+        kept: u32,
+        changes: &mut Gathered<Change>,
+    ) {
+        let mut place_at = first;
         for _ in 0..CLAUSES {
-            if Some(at) != kept && self.stands_at(at) {
-                changes.push(Change::Ended(at))?;
+            let place = plan.place(place_at);
+            if place_at != kept && self.stands_at(place_at) {
+                changes.add(Change {
+                    c: place.c,
+                    at: place_at,
+                    step: Step::Ended,
+                });
             }
-            let Some(place) = plan.place(at) else {
-                break;
-            };
-            at = place.mate;
-            if at == first {
+            place_at = place.mate;
+            if place_at == first {
                 break;
             }
         }
-        Ok(())
     }
 }

@@ -3,14 +3,19 @@
 use crate::plan::Plan;
 use crate::queues::moved;
 use co_base::{Memory, Row};
+use gathered::{at, put};
 use history_text::Line;
+use job_model::JobAct;
 use script_reader::Script;
 use std::alloc::Global;
+
+/// No Job: there are fewer rows.
+pub(crate) const NO_ROW: Row = Row::MAX;
 
 /// One Job.
 #[derive(Clone, Copy)]
 struct JobSeen {
-    parent: Option<Row>,
+    parent: Row,
     /// How many of its children were not told to be gone, and how many may still be cancelled.
     living: u32,
     calm: u32,
@@ -22,30 +27,91 @@ struct JobSeen {
     needs_calm: u32,
 }
 
-/// A change, which can be taken back.
+/// What happens to a Job.
 #[derive(Clone, Copy)]
-pub(crate) enum JobChange {
-    /// A row, its parent, and whether it was Cancelling at once.
-    Attached(Row, Row, bool),
-    BodyEnded(Row),
-    Cancelled(Row),
-    Finished(Row),
-    Gone(Row),
+pub(crate) enum JobStep {
+    Attached,
+    /// The same of one that is Cancelling at once.
+    AttachedCancelling,
+    BodyEnded,
+    Cancelled,
+    Finished,
+    /// The same of one that was Cancelling.
+    FinishedCancelling,
+    Gone,
     /// A line was written that needed that it was not Cancelling.
-    WasCalm(Row),
+    WasCalm,
+}
+
+/// A change of the Job of a row, which can be taken back.
+#[derive(Clone, Copy)]
+pub(crate) struct JobChange {
+    pub(crate) row: Row,
+    pub(crate) parent: Row,
+    pub(crate) step: JobStep,
+}
+
+impl JobChange {
+    /// Whether it is told to those who wait for something to happen to the Job.
+    pub(crate) fn is_of_row(self) -> bool {
+        !matches!(self.step, JobStep::Gone)
+    }
+
+    /// Whether it is told to those who wait for something to happen to its parent.
+    pub(crate) fn is_of_parent(self) -> bool {
+        matches!(
+            self.step,
+            JobStep::Attached | JobStep::AttachedCancelling | JobStep::Gone
+        )
+    }
+}
+
+impl JobSeen {
+    /// Takes what happens to the Job itself.
+    fn take(&mut self, change: JobChange, back: bool) {
+        match change.step {
+            JobStep::Attached => {
+                self.attached = !back;
+                self.parent = change.parent;
+            }
+            JobStep::AttachedCancelling => {
+                self.attached = !back;
+                self.parent = change.parent;
+                self.cancelling = !back;
+            }
+            JobStep::BodyEnded => self.body_ended = !back,
+            JobStep::Cancelled => self.cancelling = !back,
+            JobStep::Finished | JobStep::FinishedCancelling => self.ended = !back,
+            JobStep::WasCalm => self.needs_calm = moved(self.needs_calm, back),
+            JobStep::Gone => {}
+        }
+    }
+
+    /// Counts what happens to a child.
+    fn count(&mut self, step: JobStep, back: bool) {
+        match step {
+            JobStep::Attached => {
+                self.living = moved(self.living, !back);
+                self.calm = moved(self.calm, !back);
+            }
+            JobStep::AttachedCancelling => self.living = moved(self.living, !back),
+            JobStep::Cancelled | JobStep::Finished => self.calm = moved(self.calm, back),
+            JobStep::Gone => self.living = moved(self.living, back),
+            JobStep::BodyEnded | JobStep::FinishedCancelling | JobStep::WasCalm => {}
+        }
+    }
 }
 
 /// All Jobs.
 #[derive(Drop)]
 pub(crate) struct Rows {
     rows: Vec<JobSeen>,
-    /// How many coroutines there are, behind whose rows come those of scopes; and the row of the next scope.
+    /// How many coroutines there are, behind whose rows come those of scopes.
     coroutines: u16,
-    next_scope: Row,
 }
 
 const NO_JOB: JobSeen = JobSeen {
-    parent: None,
+    parent: NO_ROW,
     living: 0,
     calm: 0,
     attached: false,
@@ -53,6 +119,11 @@ const NO_JOB: JobSeen = JobSeen {
     cancelling: false,
     ended: false,
     needs_calm: 0,
+};
+
+const ROOT: JobSeen = JobSeen {
+    attached: true,
+    ..NO_JOB
 };
 
 impl Rows {
@@ -66,21 +137,24 @@ impl Rows {
         let mut rows = Rows {
             rows: vec![in alloc; NO_JOB; script.jobs() as usize]?,
             coroutines: script.coroutines(),
-            next_scope: script.coroutines(),
         };
-        if let Some(root) = rows.rows.get_mut(0) {
-            root.attached = true;
-        }
-        for (at, line) in lines.iter().enumerate() {
-            if let Some(row) = plan.needs_calm(line.item, at) {
-                rows.change(JobChange::WasCalm(row), true);
-            }
-        }
+        put(&mut rows.rows, 0, ROOT);
+        rows.count_calm(plan, lines);
         Ok(rows)
     }
 
+    /// Counts for each Job the lines that need that it is not Cancelling.
+    fn count_calm(&mut self, plan: &Plan, lines: &[Line]) {
+        let mut place = 0usize;
+        for line in lines {
+            let change = self.change_of(plan.needs_calm(line.item, place), JobStep::WasCalm);
+            self.change(change, true);
+            place = place.saturating_add(1);
+        }
+    }
+
     fn row(&self, row: Row) -> JobSeen {
-        self.rows.get(row as usize).copied().unwrap_or(NO_JOB)
+        at(self.rows.as_slice(), row as usize, NO_JOB)
     }
 
     pub(crate) fn is_cancelling(&self, row: Row) -> bool {
@@ -95,13 +169,17 @@ impl Rows {
         self.row(row).body_ended
     }
 
-    pub(crate) fn parent(&self, row: Row) -> Option<Row> {
+    /// The row of its parent; `NO_ROW`, if there is none.
+    pub(crate) fn parent(&self, row: Row) -> Row {
         self.row(row).parent
     }
 
     /// Whether a row may be attached: those of scopes are given out in their order.
     pub(crate) fn may_attach(&self, row: Row) -> bool {
-        row < self.coroutines || row == self.next_scope
+        let first = self.coroutines;
+        row < first
+            || (!self.row(row).attached
+                && (row == first || self.row(row.saturating_sub(1)).attached))
     }
 
     /// How many of its children live.
@@ -120,78 +198,57 @@ impl Rows {
         job.attached && !job.ended && !job.cancelling && job.needs_calm == 0
     }
 
+    /// The change that this makes of a row that is attached.
+    pub(crate) fn change_of(&self, row: Row, step: JobStep) -> JobChange {
+        JobChange {
+            row,
+            parent: self.parent(row),
+            step,
+        }
+    }
+
+    /// The change that an act makes, if one is kept of it.
+    pub(crate) fn change_by(&self, act: JobAct) -> Option<JobChange> {
+        match act {
+            JobAct::Attach {
+                parent,
+                row,
+                cancelled,
+                ..
+            } => Some(JobChange {
+                row,
+                parent,
+                step: if cancelled {
+                    JobStep::AttachedCancelling
+                } else {
+                    JobStep::Attached
+                },
+            }),
+            JobAct::EndBody { row, .. } => Some(self.change_of(row, JobStep::BodyEnded)),
+            JobAct::Cancel { row, .. } => Some(self.change_of(row, JobStep::Cancelled)),
+            JobAct::Finish { row, .. } => Some(self.change_of(row, self.finished(row))),
+            JobAct::Gone { row } => Some(self.change_of(row, JobStep::Gone)),
+            JobAct::Start { .. } => None,
+        }
+    }
+
+    fn finished(&self, row: Row) -> JobStep {
+        if self.is_cancelling(row) {
+            JobStep::FinishedCancelling
+        } else {
+            JobStep::Finished
+        }
+    }
+
     /// Makes a change, or takes it back.
     pub(crate) fn change(&mut self, change: JobChange, back: bool) {
-        match change {
-            JobChange::Attached(row, parent, cancelled) => {
-                self.attach(row, parent, cancelled, back)
-            }
-            JobChange::BodyEnded(row) => {
-                if let Some(job) = self.rows.get_mut(row as usize) {
-                    job.body_ended = !back;
-                }
-            }
-            JobChange::Cancelled(row) => {
-                if let Some(job) = self.rows.get_mut(row as usize) {
-                    job.cancelling = !back;
-                }
-                self.add_calm(row, back);
-            }
-            JobChange::Finished(row) => self.finish(row, back),
-            JobChange::Gone(row) => {
-                if let Some(parent) = self.parent(row) {
-                    self.add_living(parent, back);
-                }
-            }
-            JobChange::WasCalm(row) => {
-                if let Some(job) = self.rows.get_mut(row as usize) {
-                    job.needs_calm = moved(job.needs_calm, back);
-                }
-            }
+        let row = change.row as usize;
+        if row < self.rows.len() {
+            self.rows[row].take(change, back);
         }
-    }
-
-    fn add_living(&mut self, parent: Row, up: bool) {
-        if let Some(job) = self.rows.get_mut(parent as usize) {
-            job.living = moved(job.living, up);
-        }
-    }
-
-    /// The parent of a row has one child more, or less, that may be cancelled.
-    fn add_calm(&mut self, row: Row, up: bool) {
-        let Some(parent) = self.parent(row) else {
-            return;
-        };
-        if let Some(job) = self.rows.get_mut(parent as usize) {
-            job.calm = moved(job.calm, up);
-        }
-    }
-
-    fn attach(&mut self, row: Row, parent: Row, cancelled: bool, back: bool) {
-        if let Some(job) = self.rows.get_mut(row as usize) {
-            job.attached = !back;
-            job.parent = Some(parent);
-            job.cancelling = cancelled && !back;
-        }
-        if row >= self.coroutines {
-            self.next_scope = if back {
-                self.next_scope.saturating_sub(1)
-            } else {
-                self.next_scope.saturating_add(1)
-            };
-        }
-        self.add_living(parent, !back);
-        if !cancelled {
-            self.add_calm(row, !back);
-        }
-    }
-
-    fn finish(&mut self, row: Row, back: bool) {
-        if let Some(job) = self.rows.get_mut(row as usize) {
-            job.ended = !back;
-        }
-        if !self.is_cancelling(row) {
-            self.add_calm(row, back);
+        let parent = change.parent as usize;
+        if parent < self.rows.len() {
+            self.rows[parent].count(change.step, back);
         }
     }
 }

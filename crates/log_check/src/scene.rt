@@ -1,14 +1,15 @@
 //! Where a run stands, as its lines say, and whether a line may come next. Nothing is claimed of it: it says which coroutine is worth a
 //! poll.
 
-use crate::plan::Plan;
+use crate::plan::{NOWHERE, Plan};
 use crate::polled::written_by;
-use crate::queues::{Change, Queues};
-use crate::rows::{JobChange, Rows};
-use crate::sleepers::{Sleepers, Until};
+use crate::queues::{Change, NO_CHANGE, Queues, Step};
+use crate::rows::{JobChange, JobStep, NO_ROW, Rows};
+use crate::sleepers::{Sleepers, UNKNOWN};
 use channel_model::{Act, ChannelNote, Settled};
-use co_base::{ChannelId, Memory, Row, Tag, WaitId};
+use co_base::{ChannelId, Memory, Place, Row, Tag, WaitId};
 use engine_one::Trial;
+use gathered::{Gathered, at};
 use history_text::Line;
 use job_model::{End, JobAct, JobNote};
 use note_book::{Item, Notes};
@@ -37,10 +38,10 @@ pub(crate) struct Scene {
     queues: Queues,
     rows: Rows,
     sleepers: Sleepers,
-    changes: Vec<Change>,
-    job_changes: Vec<JobChange>,
+    changes: Gathered<Change>,
+    job_changes: Gathered<JobChange>,
     /// Behind each poll how many changes there were.
-    marks: Vec<(usize, usize)>,
+    marks: Gathered<(usize, usize)>,
 }
 
 /// What is looked at: the lines, what they say of the whole run, and the run.
@@ -54,9 +55,12 @@ pub(crate) struct View<'a> {
 impl View<'_> {
     /// The line of a coroutine that has this number among its own.
     fn item(self, tag: Tag, number: usize) -> Option<Item> {
-        let at = self.plan.line_of(tag, number)?;
-        let line = self.lines.get(at)?;
-        Some(line.item)
+        let line = self.plan.line_of(tag, number) as usize;
+        if line < self.lines.len() {
+            Some(self.lines[line].item)
+        } else {
+            None
+        }
     }
 
     fn is_resolved(self, w: WaitId) -> bool {
@@ -68,20 +72,68 @@ fn rank_if(good: bool) -> Rank {
     if good { Rank::Now } else { Rank::Never }
 }
 
-/// Whether an item is one of several that one poll of a select writes.
-fn is_of_select(item: Item) -> bool {
+/// Whether a line is one of several that one poll of a select writes.
+fn is_of_select(note: ChannelNote) -> bool {
     matches!(
-        item,
-        Item::Channel(
-            ChannelNote::Empty { .. }
-                | ChannelNote::Full { .. }
-                | ChannelNote::Made(Act::Offer { .. } | Act::Await { .. })
-        )
+        note,
+        ChannelNote::Empty { .. }
+            | ChannelNote::Full { .. }
+            | ChannelNote::Made(Act::Offer { .. } | Act::Await { .. })
     )
 }
 
-/// What a coroutine waits for whose next line is this answer of a call.
-fn until_note(note: ChannelNote) -> Until {
+/// What a coroutine does behind the close of a channel.
+#[derive(Clone, Copy)]
+struct AtClose {
+    /// How many receivers are told.
+    told: u32,
+    /// How many elements are discarded.
+    drained: u32,
+    /// Whether the channel is cancelled.
+    voided: bool,
+}
+
+impl AtClose {
+    /// The same with a line more, if it is one of what is done behind the close of this channel.
+    fn and(self, channel: ChannelId, item: Option<Item>) -> Option<AtClose> {
+        let Some(Item::Channel(ChannelNote::Made(act))) = item else {
+            return None;
+        };
+        let (c, told, drained, voided) = match act {
+            Act::WakeClosed { c, .. } => (c, 1, 0, false),
+            Act::Drain { c, .. } => (c, 0, 1, false),
+            Act::Void { c } => (c, 0, 0, true),
+            _ => return None,
+        };
+        if c != channel {
+            return None;
+        }
+        Some(AtClose {
+            told: self.told.saturating_add(told),
+            drained: self.drained.saturating_add(drained),
+            voided: self.voided || voided,
+        })
+    }
+}
+
+/// What is done behind a close of this channel.
+fn met_at_close(view: View, tag: Tag, number: usize, channel: ChannelId) -> AtClose {
+    let mut met = AtClose {
+        told: 0,
+        drained: 0,
+        voided: false,
+    };
+    for next in number.saturating_add(1)..view.plan.own_count(tag) {
+        let Some(more) = met.and(channel, view.item(tag, next)) else {
+            break;
+        };
+        met = more;
+    }
+    met
+}
+
+/// The number of what a coroutine waits for whose next line is this answer of a call.
+fn until_note(plan: &Plan, note: ChannelNote) -> usize {
     match note {
         ChannelNote::SendClosed { c, .. }
         | ChannelNote::TrySendClosed { c, .. }
@@ -89,9 +141,34 @@ fn until_note(note: ChannelNote) -> Until {
         | ChannelNote::TryReceiveClosed { c, .. }
         | ChannelNote::AlreadyClosed { c, .. }
         | ChannelNote::Full { c, .. }
-        | ChannelNote::Empty { c } => Until::Channel(c),
-        _ => Until::Unknown,
+        | ChannelNote::Empty { c } => plan.thing_of_channel(c),
+        _ => UNKNOWN,
     }
+}
+
+/// A place whose wait is ended, with all other places that were begun for it.
+#[derive(Clone, Copy)]
+struct Ends {
+    c: ChannelId,
+    place: Place,
+    /// Whether the place itself stays.
+    stays: bool,
+}
+
+/// The place whose wait an act ends, if it ends one.
+fn ended_by(act: Act) -> Option<Ends> {
+    let (c, place, stays) = match act {
+        Act::Hand { c, place, .. }
+        | Act::Take { c, place, .. }
+        | Act::Drop { c, place, .. }
+        | Act::Spurn { c, place, .. }
+        | Act::Drain { c, place, .. }
+        | Act::WakeClosed { c, place } => (c, place, false),
+        Act::Admit { c, place } => (c, place, true),
+        Act::Withdraw { w, .. } => (w.channel, w.place, false),
+        _ => return None,
+    };
+    Some(Ends { c, place, stays })
 }
 
 impl Scene {
@@ -106,9 +183,9 @@ impl Scene {
             queues: Queues::new(alloc, plan)?,
             rows: Rows::new(alloc, plan, script, lines)?,
             sleepers: Sleepers::new(alloc, plan, script)?,
-            changes: Vec::new(alloc),
-            job_changes: Vec::new(alloc),
-            marks: Vec::new(alloc),
+            changes: Gathered::new(alloc),
+            job_changes: Gathered::new(alloc),
+            marks: Gathered::new(alloc),
         })
     }
 
@@ -116,41 +193,40 @@ impl Scene {
 
     /// How soon a coroutine is to be polled that has written so many of its lines.
     pub(crate) fn rank(&mut self, view: View, tag: Tag, number: usize) -> Rank {
-        let Some(item) = view.item(tag, number) else {
-            return Rank::Never;
-        };
-        match item {
-            Item::Channel(note) => {
-                if !self.note_may_come(view, tag, number, note) {
-                    return Rank::Never;
-                }
-                if self.is_held(view.plan, note) || !self.select_may_come(view, tag, number, item) {
-                    return Rank::Held;
-                }
-                Rank::Now
-            }
-            Item::Job(note) => self.rank_of_job(view, tag, number, note),
+        match view.item(tag, number) {
+            Some(Item::Channel(note)) => self.rank_of_note(view, tag, number, note),
+            Some(Item::Job(note)) => self.rank_of_job(view, tag, number, note),
+            None => Rank::Never,
+        }
+    }
+
+    fn rank_of_note(&mut self, view: View, tag: Tag, number: usize, note: ChannelNote) -> Rank {
+        if !self.note_may_come(view, tag, number, note) {
+            Rank::Never
+        } else if self.is_held(view.plan, note) || !self.select_may_come(view, tag, number, note) {
+            Rank::Held
+        } else {
+            Rank::Now
         }
     }
 
     /// Whether the lines behind this one may come with it, if they are those of one select.
-    fn select_may_come(&mut self, view: View, tag: Tag, number: usize, first: Item) -> bool {
-        let mut item = first;
-        for step in 1..CLAUSES {
-            if !is_of_select(item) {
-                return true;
-            }
-            let next = number.saturating_add(step);
-            let Some(Item::Channel(note)) = view.item(tag, next) else {
+    fn select_may_come(&mut self, view: View, tag: Tag, first: usize, note: ChannelNote) -> bool {
+        let mut note = note;
+        let mut number = first;
+        for _ in 1..CLAUSES {
+            number = number.saturating_add(1);
+            let Some(Item::Channel(next)) = view.item(tag, number) else {
                 return true;
             };
-            if matches!(note, ChannelNote::Made(Act::Settle { .. })) {
+            let settles = matches!(next, ChannelNote::Made(Act::Settle { .. }));
+            if settles || !is_of_select(note) {
                 return true;
             }
-            if !self.note_may_come(view, tag, next, note) {
+            if !self.note_may_come(view, tag, number, next) {
                 return false;
             }
-            item = Item::Channel(note);
+            note = next;
         }
         true
     }
@@ -163,17 +239,10 @@ impl Scene {
             | ChannelNote::TrySendClosed { c, .. }
             | ChannelNote::AlreadyClosed { c, .. } => self.queues.is_closed(c),
             ChannelNote::ReceiveClosed { c, .. } | ChannelNote::TryReceiveClosed { c, .. } => {
-                let (elements, _) = self.queues.holds(view.plan, c);
-                self.queues.is_closed(c) && !elements
+                self.queues.is_drained(view.plan, c)
             }
-            ChannelNote::Empty { c } => {
-                let (elements, _) = self.queues.holds(view.plan, c);
-                !self.queues.is_closed(c) && !elements
-            }
-            ChannelNote::Full { c, .. } => {
-                let (_, receivers) = self.queues.holds(view.plan, c);
-                !self.queues.is_closed(c) && !receivers && self.queues.is_full(view.plan, c)
-            }
+            ChannelNote::Empty { c } => self.queues.is_empty(view.plan, c),
+            ChannelNote::Full { c, .. } => self.queues.has_no_room(view.plan, c),
             ChannelNote::Spent { .. } => true,
             ChannelNote::Partner { .. }
             | ChannelNote::MainResolved { .. }
@@ -190,9 +259,13 @@ impl Scene {
             Act::Take { c, place, .. } => self.queues.may_be_met(plan, c, place, false),
             Act::Close { c, .. } => self.may_close(view, tag, number, c),
             Act::Settle { w, outcome } => self.may_settle(view, tag, number, w, outcome),
-            Act::Withdraw { w, .. } => !view.is_resolved(w) && self.queues.wait_may_leave(plan, w),
+            Act::Withdraw { w, .. } => self.may_withdraw(view, w),
             _ => true,
         }
+    }
+
+    fn may_withdraw(&self, view: View, w: WaitId) -> bool {
+        !view.is_resolved(w) && self.queues.wait_may_leave(view.plan, w)
     }
 
     /// Whether a channel may be closed: as many receivers are told, or elements discarded, as stand there.
@@ -200,81 +273,39 @@ impl Scene {
         if !self.queues.may_close(view.plan, c) {
             return false;
         }
-        let (elements, receivers) = self.queues.holds(view.plan, c);
-        let (told, drained, voided) = self.met_at_close(view, tag, number, c);
+        let front = self.queues.front(view.plan, c);
+        let met = met_at_close(view, tag, number, c);
         let standing = self.queues.standing(c);
-        (!receivers || told == standing) && (!elements || !voided || drained == standing)
-    }
-
-    /// How many receivers are told behind a close, how many elements are discarded, and whether it is cancelled.
-    fn met_at_close(
-        &self,
-        view: View,
-        tag: Tag,
-        number: usize,
-        channel: ChannelId,
-    ) -> (u32, u32, bool) {
-        let mut told = 0u32;
-        let mut drained = 0u32;
-        let mut voided = false;
-        let most = view.plan.own_count(tag);
-        for next in number.saturating_add(1)..most {
-            match view.item(tag, next) {
-                Some(Item::Channel(ChannelNote::Made(Act::WakeClosed { c, .. }))) => {
-                    if c != channel {
-                        break;
-                    }
-                    told = told.saturating_add(1);
-                }
-                Some(Item::Channel(ChannelNote::Made(Act::Drain { c, .. }))) => {
-                    if c != channel {
-                        break;
-                    }
-                    drained = drained.saturating_add(1);
-                }
-                Some(Item::Channel(ChannelNote::Made(Act::Void { c }))) => {
-                    if c != channel {
-                        break;
-                    }
-                    voided = true;
-                }
-                _ => {
-                    break;
-                }
-            }
-        }
-        (told, drained, voided)
+        (!front.is_receiver() || met.told == standing)
+            && (!front.is_element() || !met.voided || met.drained == standing)
     }
 
     fn may_settle(&self, view: View, tag: Tag, number: usize, w: WaitId, outcome: Settled) -> bool {
-        let row = match view.plan.line_of(tag, number) {
-            Some(at) => view.plan.inner_of(at),
-            None => tag,
+        let line = view.plan.line_of(tag, number);
+        let row = if line == NOWHERE {
+            tag
+        } else {
+            view.plan.inner_of(line as usize)
         };
         let cancelling = self.rows.is_cancelling(row);
+        let leaves = w.channel == view.plan.done_channel(row);
         match outcome {
             Settled::Cancelled => true,
             Settled::Undelivered(_) => cancelling && view.is_resolved(w),
             Settled::Value(_, _) | Settled::Sent(_) | Settled::Closed(_, _) => {
-                let leaves = w.channel == view.plan.done_channel(row);
                 view.is_resolved(w) && (leaves || !cancelling)
             }
         }
     }
 
     /// Whether another line is left that may come now, but not after this one.
-    fn is_held(&mut self, plan: &Plan, note: ChannelNote) -> bool {
-        let ChannelNote::Made(act) = note else {
-            return false;
-        };
-        match act {
-            Act::Put { c, .. } | Act::Offer { c, .. } => {
-                let (empties, _) = self.queues.left_to_say(c);
-                empties > 0 && self.queues.standing(c) == 0
+    fn is_held(&self, plan: &Plan, note: ChannelNote) -> bool {
+        match note {
+            ChannelNote::Made(Act::Put { c, .. } | Act::Offer { c, .. }) => {
+                self.queues.empties(c) > 0 && self.queues.standing(c) == 0
             }
-            Act::Await { c, .. } | Act::Take { c, .. } => {
-                let (_, fulls) = self.queues.left_to_say(c);
-                fulls > 0 && self.queues.is_full(plan, c)
+            ChannelNote::Made(Act::Await { c, .. } | Act::Take { c, .. }) => {
+                self.queues.fulls(c) > 0 && self.queues.is_full(plan, c)
             }
             _ => false,
         }
@@ -286,44 +317,40 @@ impl Scene {
                 rank_if(self.rows.is_cancelling(row) && self.may_give_up(view, tag, number))
             }
             JobNote::SawEnd { row, .. } => rank_if(self.rows.has_ended(row)),
-            JobNote::Made(
-                JobAct::Attach {
-                    parent,
-                    row,
-                    cancelled,
-                    ..
-                },
-            ) => rank_if(self.rows.is_cancelling(parent) == cancelled && self.rows.may_attach(row)),
-            JobNote::Made(JobAct::EndBody { row, .. }) => {
-                rank_if(self.end_waits_for(view, tag, number, row).is_none())
+            JobNote::Made(act) => self.rank_of_act(view, tag, number, act),
+            _ => Rank::Now,
+        }
+    }
+
+    fn rank_of_act(&self, view: View, tag: Tag, number: usize, act: JobAct) -> Rank {
+        match act {
+            JobAct::Attach {
+                parent,
+                row,
+                cancelled,
+                ..
+            } => rank_if(self.rows.is_cancelling(parent) == cancelled && self.rows.may_attach(row)),
+            JobAct::EndBody { row, .. } => {
+                rank_if(self.end_waits_for(view, tag, number, row) == UNKNOWN)
             }
-            JobNote::Made(JobAct::Cancel { .. }) => {
-                if self.may_cancel(view, tag, number) {
-                    Rank::Cancels
-                } else {
-                    Rank::Never
-                }
-            }
+            JobAct::Cancel { .. } if self.may_cancel(view, tag, number) => Rank::Cancels,
+            JobAct::Cancel { .. } => Rank::Never,
             _ => Rank::Now,
         }
     }
 
     /// Whether the wait that a coroutine gives up stands, or was resolved, as its next line says.
     fn may_give_up(&self, view: View, tag: Tag, number: usize) -> bool {
-        match view.item(tag, number.saturating_add(1)) {
-            Some(Item::Channel(ChannelNote::Made(Act::Withdraw { w, .. }))) => {
-                !view.is_resolved(w) && self.queues.wait_may_leave(view.plan, w)
-            }
-            Some(
-                Item::Channel(
-                    ChannelNote::Made(
-                        Act::Settle {
-                            w,
-                            outcome: Settled::Undelivered(_),
-                        },
-                    ),
-                ),
-            ) => view.is_resolved(w),
+        let Some(Item::Channel(ChannelNote::Made(act))) = view.item(tag, number.saturating_add(1))
+        else {
+            return true;
+        };
+        match act {
+            Act::Withdraw { w, .. } => self.may_withdraw(view, w),
+            Act::Settle {
+                w,
+                outcome: Settled::Undelivered(_),
+            } => view.is_resolved(w),
             _ => true,
         }
     }
@@ -332,8 +359,7 @@ impl Scene {
     fn may_cancel(&self, view: View, tag: Tag, number: usize) -> bool {
         let mut count = 0u32;
         let mut below = 0u32;
-        let most = view.plan.own_count(tag);
-        for next in number..most {
+        for next in number..view.plan.own_count(tag) {
             let Some(Item::Job(JobNote::Made(JobAct::Cancel { row, .. }))) = view.item(tag, next)
             else {
                 break;
@@ -347,89 +373,84 @@ impl Scene {
         below.saturating_add(1) == count
     }
 
-    /// What a body waits for that is to end with the ends of Jobs that follow, if it does: a Job ends with the last of its children and its
-    /// body.
-    fn end_waits_for(&self, view: View, tag: Tag, number: usize, first: Row) -> Option<Until> {
+    /// The number of what a body waits for that is to end with the ends of Jobs that follow; `UNKNOWN`, if it waits for nothing. A Job ends
+    /// with the last of its children and its body.
+    fn end_waits_for(&self, view: View, tag: Tag, number: usize, first: Row) -> usize {
         let mut row = first;
-        let mut living = self.rows.living(row);
-        let mut ended_body = true;
+        let mut is_last = self.rows.living(row) == 0;
         let mut next = number.saturating_add(1);
-        let most = view.plan.own_count(tag);
-        for _ in number..most {
-            let finishes = match view.item(tag, next) {
-                Some(Item::Job(JobNote::Made(JobAct::Finish { row: of, end }))) => {
-                    if of != row || !self.may_finish(row, end) {
-                        return Some(Until::Job(row));
-                    }
-                    true
-                }
-                _ => false,
+        for _ in number..view.plan.own_count(tag) {
+            if !self.may_go_on(row, is_last, view.item(tag, next)) {
+                return view.plan.thing_of_job(row);
+            }
+            let parent = self.rows.parent(row);
+            if !is_last || parent == NO_ROW {
+                break;
+            }
+            let Some(behind) = self.after_finish(view, tag, next, row) else {
+                return view.plan.thing_of_channel(view.plan.done_channel(row));
             };
-            if finishes != (ended_body && living == 0) {
-                return Some(Until::Job(row));
-            }
-            if !finishes {
-                return None;
-            }
-            let parent = self.rows.parent(row)?;
-            match self.after_finish(view, tag, next, row) {
-                Some(behind) => next = behind,
-                None => return Some(Until::Channel(view.plan.done_channel(row))),
-            }
+            next = behind;
             row = parent;
-            living = self.rows.living(row).saturating_sub(1);
-            ended_body = self.rows.has_ended_body(row);
+            is_last = self.rows.living(row) < 2 && self.rows.has_ended_body(row);
         }
-        None
+        UNKNOWN
     }
 
-    /// Whether a Job is cancelled where it ends so.
-    fn may_finish(&self, row: Row, end: End) -> bool {
-        let cancelled = matches!(end, End::Cancelled(_));
-        cancelled == self.rows.is_cancelling(row)
+    /// Whether an item ends a Job as it is to end where nothing of it lives any more; if something does, whether it ends no Job.
+    fn may_go_on(&self, row: Row, is_last: bool, item: Option<Item>) -> bool {
+        match item {
+            Some(Item::Job(JobNote::Made(JobAct::Finish { row: of, end }))) => {
+                let cancelled = matches!(end, End::Cancelled(_));
+                is_last && of == row && cancelled == self.rows.is_cancelling(row)
+            }
+            _ => !is_last,
+        }
     }
 
     /// The number of the line behind the end of a Job, if all who wait for it are told.
     fn after_finish(&self, view: View, tag: Tag, number: usize, row: Row) -> Option<usize> {
         let close = number.saturating_add(1);
         let c = view.plan.done_channel(row);
-        if !self.queues.may_close(view.plan, c) {
-            return None;
+        let told = met_at_close(view, tag, close, c).told;
+        if self.queues.may_close(view.plan, c) && told == self.queues.standing(c) {
+            Some(close.saturating_add(2).saturating_add(told as usize))
+        } else {
+            None
         }
-        let (told, _, _) = self.met_at_close(view, tag, close, c);
-        if told != self.queues.standing(c) {
-            return None;
-        }
-        let gone = close.saturating_add(1).saturating_add(told as usize);
-        Some(gone.saturating_add(1))
     }
 
     // ---- who is worth a look
 
-    /// What a coroutine waits for whose line may not come.
-    fn until(&mut self, view: View, tag: Tag, number: usize) -> Until {
+    /// The number of what a coroutine waits for whose line may not come.
+    fn until(&mut self, view: View, tag: Tag, number: usize) -> usize {
         match view.item(tag, number) {
             Some(Item::Channel(ChannelNote::Made(act))) => self.until_act(view, act),
-            Some(Item::Channel(note)) => until_note(note),
-            Some(Item::Job(JobNote::Saw { row } | JobNote::SawEnd { row, .. })) => Until::Job(row),
-            Some(Item::Job(JobNote::Made(JobAct::Attach { parent, row, .. }))) => {
-                if self.rows.may_attach(row) {
-                    Until::Job(parent)
-                } else {
-                    Until::Job(row.saturating_sub(1))
-                }
-            }
-            Some(Item::Job(JobNote::Made(JobAct::EndBody { row, .. }))) => {
-                match self.end_waits_for(view, tag, number, row) {
-                    Some(until) => until,
-                    None => Until::Unknown,
-                }
-            }
-            _ => Until::Unknown,
+            Some(Item::Channel(note)) => until_note(view.plan, note),
+            Some(Item::Job(note)) => self.until_job(view, tag, number, note),
+            None => UNKNOWN,
         }
     }
 
-    fn until_act(&mut self, view: View, act: Act) -> Until {
+    fn until_job(&self, view: View, tag: Tag, number: usize, note: JobNote) -> usize {
+        let row = match note {
+            JobNote::Saw { row } | JobNote::SawEnd { row, .. } => row,
+            JobNote::Made(JobAct::Attach { parent, row, .. }) => {
+                if self.rows.may_attach(row) {
+                    parent
+                } else {
+                    row.saturating_sub(1)
+                }
+            }
+            JobNote::Made(JobAct::EndBody { row, .. }) => {
+                return self.end_waits_for(view, tag, number, row);
+            }
+            _ => return UNKNOWN,
+        };
+        view.plan.thing_of_job(row)
+    }
+
+    fn until_act(&mut self, view: View, act: Act) -> usize {
         let plan = view.plan;
         match act {
             Act::Put { c, place, .. } | Act::Offer { c, place, .. } | Act::Await { c, place, .. } =>
@@ -437,12 +458,11 @@ impl Scene {
             Act::Hand { c, place, .. } | Act::Take { c, place, .. } => {
                 self.queues.until_first(plan, c, place)
             }
-            Act::Settle { w, .. } => match plan.place_at(w.channel, w.place) {
-                Some(at) if !view.is_resolved(w) => Until::Place(at),
-                _ => Until::Unknown,
-            },
-            Act::Close { c, .. } => Until::Channel(c),
-            _ => Until::Unknown,
+            Act::Settle { w, .. } if !view.is_resolved(w) => {
+                plan.thing_of_place(plan.place_at(w.channel, w.place))
+            }
+            Act::Close { c, .. } => plan.thing_of_channel(c),
+            _ => UNKNOWN,
         }
     }
 
@@ -464,145 +484,116 @@ impl Scene {
     }
 
     /// A coroutine that was polled is to be looked at before all others, or after them.
-    pub(crate) fn look_at(&mut self, tag: Tag, first: bool) -> Result<(), Memory> {
-        self.sleepers.look_at(tag, first)
-    }
-
-    fn wake(&mut self, plan: &Plan, change: Change) -> Result<(), Memory> {
-        match change {
-            Change::Begun(at) | Change::Ended(at) => {
-                self.sleepers.wake(Until::Place(at))?;
-                match plan.place(at) {
-                    Some(place) => self.sleepers.wake(Until::Channel(place.c)),
-                    None => Ok(()),
-                }
-            }
-            Change::Closed(c) | Change::SaidEmpty(c) | Change::SaidFull(c) => {
-                self.sleepers.wake(Until::Channel(c))
-            }
-        }
-    }
-
-    fn wake_by_job(&mut self, change: JobChange) -> Result<(), Memory> {
-        match change {
-            JobChange::Attached(row, parent, _) => {
-                self.sleepers.wake(Until::Job(row))?;
-                self.sleepers.wake(Until::Job(parent))
-            }
-            JobChange::BodyEnded(row)
-            | JobChange::Cancelled(row)
-            | JobChange::Finished(row)
-            | JobChange::WasCalm(row) => self.sleepers.wake(Until::Job(row)),
-            JobChange::Gone(row) => match self.rows.parent(row) {
-                Some(parent) => self.sleepers.wake(Until::Job(parent)),
-                None => Ok(()),
-            },
-        }
+    pub(crate) fn look_at(&mut self, tag: Tag, first: bool) {
+        self.sleepers.look_at(tag, first);
     }
 
     // ---- what was written
 
     /// A line was written.
-    pub(crate) fn keep(&mut self, plan: &Plan, item: Item, at: usize) -> Result<(), Memory> {
-        let changes = self.changes.len();
-        let job_changes = self.job_changes.len();
+    pub(crate) fn keep(&mut self, plan: &Plan, item: Item, line: usize) {
+        let from = self.changes.len();
         match item {
-            Item::Channel(note) => self.keep_note(plan, note)?,
-            Item::Job(JobNote::Made(act)) => self.keep_act(act)?,
+            Item::Channel(note) => self.add_changes(plan, note),
+            Item::Job(JobNote::Made(act)) => self.keep_act(plan, act),
             Item::Job(_) => {}
         }
-        if let Some(row) = plan.needs_calm(item, at) {
-            self.job_changes.push(JobChange::WasCalm(row))?;
+        for number in from..self.changes.len() {
+            self.change(plan, number);
         }
-        for number in changes..self.changes.len() {
-            if let Some(change) = self.changes.get(number).copied() {
-                self.queues.change(plan, change, false);
-                self.wake(plan, change)?;
-            }
+        let row = plan.needs_calm(item, line);
+        if row != NO_ROW {
+            let change = self.rows.change_of(row, JobStep::WasCalm);
+            self.keep_job(plan, change);
         }
-        for number in job_changes..self.job_changes.len() {
-            if let Some(change) = self.job_changes.get(number).copied() {
-                self.rows.change(change, false);
-                self.wake_by_job(change)?;
-            }
-        }
-        Ok(())
     }
 
-    fn keep_note(&mut self, plan: &Plan, note: ChannelNote) -> Result<(), Memory> {
+    /// Makes the change of a channel that has this number.
+    fn change(&mut self, plan: &Plan, number: usize) {
+        let change = at(self.changes.as_slice(), number, NO_CHANGE);
+        self.queues.change(plan, change, false);
+        if change.is_of_place() {
+            self.sleepers.wake(plan.thing_of_place(change.at));
+        }
+        self.sleepers.wake(plan.thing_of_channel(change.c));
+    }
+
+    fn keep_act(&mut self, plan: &Plan, act: JobAct) {
+        if let Some(change) = self.rows.change_by(act) {
+            self.keep_job(plan, change);
+        }
+    }
+
+    /// Makes the change of a Job.
+    fn keep_job(&mut self, plan: &Plan, change: JobChange) {
+        self.job_changes.add(change);
+        self.rows.change(change, false);
+        if change.is_of_row() {
+            self.sleepers.wake(plan.thing_of_job(change.row));
+        }
+        if change.is_of_parent() {
+            self.sleepers.wake(plan.thing_of_job(change.parent));
+        }
+    }
+
+    /// Adds what a line changes that is of a channel.
+    fn add_changes(&mut self, plan: &Plan, note: ChannelNote) {
         match note {
-            ChannelNote::Made(act) => self.keep_channel_act(plan, act),
-            ChannelNote::Empty { c } => Ok(self.changes.push(Change::SaidEmpty(c))?),
-            ChannelNote::Full { c, .. } => Ok(self.changes.push(Change::SaidFull(c))?),
-            _ => Ok(()),
+            ChannelNote::Made(act) => self.add_by_act(plan, act),
+            ChannelNote::Empty { c } => self.add(c, NOWHERE, Step::SaidEmpty),
+            ChannelNote::Full { c, .. } => self.add(c, NOWHERE, Step::SaidFull),
+            _ => {}
         }
     }
 
-    fn keep_channel_act(&mut self, plan: &Plan, act: Act) -> Result<(), Memory> {
+    fn add(&mut self, c: ChannelId, at: u32, step: Step) {
+        self.changes.add(Change { c, at, step });
+    }
+
+    fn add_by_act(&mut self, plan: &Plan, act: Act) {
         match act {
             Act::Put { c, place, .. } | Act::Offer { c, place, .. } | Act::Await { c, place, .. } =>
                 {
-                    if let Some(at) = plan.place_at(c, place) {
-                        self.changes.push(Change::Begun(at))?;
+                    let place_at = plan.place_at(c, place);
+                    if place_at != NOWHERE {
+                        self.add(c, place_at, Step::Begun);
                     }
                 }
-            Act::Hand { c, place, .. }
-            | Act::Take { c, place, .. }
-            | Act::Drop { c, place, .. }
-            | Act::Spurn { c, place, .. }
-            | Act::Drain { c, place, .. }
-            | Act::WakeClosed { c, place } => {
-                if let Some(at) = plan.place_at(c, place) {
-                    self.queues.add_ends(plan, at, None, &mut self.changes)?;
-                }
-            }
-            Act::Admit { c, place } => {
-                if let Some(at) = plan.place_at(c, place) {
-                    self.queues.add_ends(plan, at, Some(at), &mut self.changes)?;
-                }
-            }
-            Act::Withdraw { w, .. } => {
-                if let Some(at) = plan.place_at(w.channel, w.place) {
-                    self.queues.add_ends(plan, at, None, &mut self.changes)?;
-                }
-            }
-            Act::Close { c, .. } => self.changes.push(Change::Closed(c))?,
-            _ => {}
+            Act::Close { c, .. } => self.add(c, NOWHERE, Step::Closed),
+            _ => self.add_ends(plan, act),
         }
-        Ok(())
     }
 
-    fn keep_act(&mut self, act: JobAct) -> Result<(), Memory> {
-        match act {
-            JobAct::Attach {
-                parent,
-                row,
-                cancelled,
-                ..
-            } => self
-                .job_changes
-                .push(JobChange::Attached(row, parent, cancelled))?,
-            JobAct::EndBody { row, .. } => self.job_changes.push(JobChange::BodyEnded(row))?,
-            JobAct::Cancel { row, .. } => self.job_changes.push(JobChange::Cancelled(row))?,
-            JobAct::Finish { row, .. } => self.job_changes.push(JobChange::Finished(row))?,
-            JobAct::Gone { row } => self.job_changes.push(JobChange::Gone(row))?,
-            JobAct::Start { .. } => {}
+    /// Adds the ends of all places of the wait that an act ends, if it ends one.
+    fn add_ends(&mut self, plan: &Plan, act: Act) {
+        let Some(ends) = ended_by(act) else {
+            return;
+        };
+        let first = plan.place_at(ends.c, ends.place);
+        let kept = if ends.stays { first } else { NOWHERE };
+        if first != NOWHERE {
+            self.queues.add_ends(plan, first, kept, &mut self.changes);
         }
-        Ok(())
     }
 
     /// A poll was written.
-    pub(crate) fn mark(&mut self) -> Result<(), Memory> {
-        self.marks
-            .push((self.changes.len(), self.job_changes.len()))?;
-        Ok(())
+    pub(crate) fn mark(&mut self) {
+        self.marks.add((self.changes.len(), self.job_changes.len()));
+    }
+
+    /// Whether memory held all that was kept.
+    pub(crate) fn is_whole(&self) -> bool {
+        let sleepers = self.sleepers.is_whole();
+        let changes = self.changes.is_whole() && self.job_changes.is_whole();
+        sleepers && changes && self.marks.is_whole()
     }
 
     /// Takes the last poll back.
     pub(crate) fn take_back(&mut self, plan: &Plan) {
         let _last = self.marks.pop();
         self.sleepers.forget();
-        let (changes, job_changes) = self.marks.last().copied().unwrap_or((0, 0));
+        let last = self.marks.len().saturating_sub(1);
+        let (changes, job_changes) = at(self.marks.as_slice(), last, (0, 0));
         for _ in changes..self.changes.len() {
             if let Some(change) = self.changes.pop() {
                 self.queues.change(plan, change, true);

@@ -1,23 +1,14 @@
 //! Coroutines of which nothing is to be expected before something happens at a place, a channel or a Job. Nothing is claimed of it.
 
 use crate::plan::Plan;
-use co_base::{ChannelId, Memory, Row, Tag};
+use co_base::{Memory, Tag};
+use gathered::{at, put};
 use script_reader::Script;
 use std::alloc::Global;
 use std::collections::VecDeque;
 
-/// What a coroutine waits for.
-#[derive(Clone, Copy)]
-pub(crate) enum Until {
-    /// A place, by its number among all, is begun, admitted or ended.
-    Place(u32),
-    /// Anything happens at a channel.
-    Channel(ChannelId),
-    /// Anything happens to a Job or its children.
-    Job(Row),
-    /// It is not known.
-    Unknown,
-}
+/// The number of what a coroutine waits for, if that is not known: `Plan` numbers places, channels and Jobs.
+pub(crate) const UNKNOWN: usize = usize::MAX;
 
 /// No coroutine.
 const NONE: Tag = Tag::MAX;
@@ -25,44 +16,27 @@ const NONE: Tag = Tag::MAX;
 /// Who sleeps for what, and who is awake and was not looked at since.
 #[derive(Drop)]
 pub(crate) struct Sleepers {
-    /// The first that sleeps for each thing: places, then channels, then Jobs; and of each the next.
+    /// The first that sleeps for each thing, by its number; and of each the next.
     heads: Vec<Tag>,
     nexts: Vec<Tag>,
     asleep: Vec<bool>,
-    channels: usize,
-    rows: usize,
     awake: VecDeque<Tag>,
+    /// Whether memory ran out as one was woken.
+    full: bool,
 }
 
 impl Sleepers {
     /// All are awake.
     pub(crate) fn new(alloc: Global, plan: &Plan, script: &Script) -> Result<Sleepers, Memory> {
         let count = script.coroutines() as usize;
-        let channels = plan.places.len();
-        let rows = channels.saturating_add(plan.channels.len());
-        let things = rows.saturating_add(script.jobs() as usize);
-        let mut awake = VecDeque::new(alloc);
-        for tag in 0..script.coroutines() {
-            awake.push_back(tag)?;
-        }
+        let things = plan.thing_of_job(script.jobs());
         Ok(Sleepers {
             heads: vec![in alloc; NONE; things]?,
             nexts: vec![in alloc; NONE; count]?,
             asleep: vec![in alloc; false; count]?,
-            channels,
-            rows,
-            awake,
+            awake: all_tags(alloc, script.coroutines())?,
+            full: false,
         })
-    }
-
-    /// Where the first stands that sleeps for this.
-    fn thing(&self, until: Until) -> Option<usize> {
-        match until {
-            Until::Place(at) => Some(at as usize),
-            Until::Channel(c) => Some(self.channels.saturating_add(c as usize)),
-            Until::Job(row) => Some(self.rows.saturating_add(row as usize)),
-            Until::Unknown => None,
-        }
     }
 
     /// How many are to be looked at.
@@ -76,70 +50,61 @@ impl Sleepers {
     }
 
     /// A coroutine is to be looked at before all others, or after them.
-    pub(crate) fn look_at(&mut self, tag: Tag, first: bool) -> Result<(), Memory> {
-        if first {
-            self.awake.push_front(tag)?;
-        } else {
-            self.awake.push_back(tag)?;
-        }
-        Ok(())
-    }
-
-    /// A coroutine sleeps until something happens.
-    pub(crate) fn sleep(&mut self, tag: Tag, until: Until) {
-        let Some(thing) = self.thing(until) else {
-            return;
-        };
-        let Some(asleep) = self.asleep.get_mut(tag as usize) else {
-            return;
-        };
-        if *asleep {
-            return;
-        }
-        if let (Some(head), Some(next)) = (
-            self.heads.get_mut(thing),
-            self.nexts.get_mut(tag as usize),
-        ) {
-            *next = *head;
-            *head = tag;
-            *asleep = true;
+    pub(crate) fn look_at(&mut self, tag: Tag, first: bool) {
+        if !first {
+            self.look_at_last(tag);
+        } else if self.awake.push_front(tag).is_err() {
+            self.full = true;
         }
     }
 
-    /// Something happens: who sleeps for it is to be looked at.
-    pub(crate) fn wake(&mut self, until: Until) -> Result<(), Memory> {
-        let Some(thing) = self.thing(until) else {
-            return Ok(());
-        };
-        let mut tag = match self.heads.get_mut(thing) {
-            Some(head) => {
-                let first = *head;
-                *head = NONE;
-                first
-            }
-            None => NONE,
-        };
+    fn look_at_last(&mut self, tag: Tag) {
+        if self.awake.push_back(tag).is_err() {
+            self.full = true;
+        }
+    }
+
+    /// Whether memory held all that were to be looked at.
+    pub(crate) fn is_whole(&self) -> bool {
+        !self.full
+    }
+
+    /// A coroutine sleeps until something happens to this thing.
+    pub(crate) fn sleep(&mut self, tag: Tag, thing: usize) {
+        let own = tag as usize;
+        if thing < self.heads.len() && !at(self.asleep.as_slice(), own, true) {
+            put(&mut self.nexts, own, at(self.heads.as_slice(), thing, NONE));
+            put(&mut self.heads, thing, tag);
+            put(&mut self.asleep, own, true);
+        }
+    }
+
+    /// Something happens to a thing: who sleeps for it is to be looked at.
+    pub(crate) fn wake(&mut self, thing: usize) {
+        let mut tag = at(self.heads.as_slice(), thing, NONE);
+        put(&mut self.heads, thing, NONE);
         for _ in 0..self.nexts.len() {
             if tag == NONE {
                 break;
             }
-            if let Some(asleep) = self.asleep.get_mut(tag as usize) {
-                *asleep = false;
-            }
-            self.awake.push_back(tag)?;
-            tag = self.nexts.get(tag as usize).copied().unwrap_or(NONE);
+            put(&mut self.asleep, tag as usize, false);
+            self.look_at_last(tag);
+            tag = at(self.nexts.as_slice(), tag as usize, NONE);
         }
-        Ok(())
     }
 
     /// Nobody sleeps any more, and nobody is to be looked at before the others.
     pub(crate) fn forget(&mut self) {
-        for head in self.heads.iter_mut() {
-            *head = NONE;
-        }
-        for asleep in self.asleep.iter_mut() {
-            *asleep = false;
-        }
+        self.heads.fill(NONE);
+        self.asleep.fill(false);
         self.awake.clear();
     }
+}
+
+fn all_tags(alloc: Global, count: u16) -> Result<VecDeque<Tag>, Memory> {
+    let mut tags = VecDeque::new(alloc);
+    for tag in 0..count {
+        tags.push_back(tag)?;
+    }
+    Ok(tags)
 }

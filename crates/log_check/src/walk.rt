@@ -5,12 +5,13 @@ ghost use Rattle.script_reader.specs.Scripts.{program_of};
 ghost use Rattle.engine_one.specs.Trials.{TrialStands};
 
 use crate::hints::Hint;
-use crate::plan::Plan;
+use crate::plan::{NOWHERE, Plan};
 use crate::polled::written_by;
 use crate::same::same_item;
 use crate::scene::{Rank, Scene, View};
 use co_base::{Gate, Memory, Tag};
 use engine_one::Trial;
+use gathered::{Gathered, at};
 use history_text::Line;
 use note_book::{Item, Notes};
 use script_reader::Script;
@@ -37,6 +38,16 @@ impl Wanted<'_> {
     fn follows_wakes(self) -> bool {
         !self.ordered && self.attempt < 2
     }
+
+    /// How many choices there are of the next coroutine: each, and that of the next line, or each once for each rank.
+    fn most_choices(self) -> u32 {
+        let count = u32::from(self.script.coroutines());
+        if self.ordered {
+            count.saturating_add(1)
+        } else {
+            count.saturating_mul(4)
+        }
+    }
 }
 
 impl<'a> Wanted<'a> {
@@ -54,9 +65,9 @@ impl<'a> Wanted<'a> {
 pub(crate) struct Path {
     scene: Scene,
     /// Behind each poll the number of the next choice.
-    choices: Vec<u32>,
+    choices: Gathered<u32>,
     /// Before each poll how many lines were written.
-    marks: Vec<usize>,
+    marks: Gathered<usize>,
     pub(crate) done: usize,
     /// How many polls were made.
     pub(crate) polls: u64,
@@ -76,6 +87,18 @@ fn item_of(trial: &Trial<Notes>, tag: Tag, number: usize) -> Option<Item> {
     trial.book(tag as usize)?.items().get(number).copied()
 }
 
+/// Whether the line of a coroutine with this number among its own is what was wanted, if it is written as this one.
+fn is_wanted(wanted: Wanted, trial: &Trial<Notes>, tag: Tag, number: usize, line: usize) -> bool {
+    let own = wanted.plan.line_of(tag, number) as usize;
+    if own >= wanted.lines.len() || (wanted.ordered && own != line) {
+        return false;
+    }
+    match item_of(trial, tag, number) {
+        Some(item) => same_item(wanted.lines[own].item, item),
+        None => false,
+    }
+}
+
 impl Path {
     /// Before the first poll. What the root noted before it is written already; if that is not what was wanted, no poll is left.
     pub(crate) fn begin(
@@ -84,23 +107,23 @@ impl Path {
         trial: &Trial<Notes>,
     ) -> Result<Path, Memory> {
         let mut path = Path::new(alloc, wanted)?;
-        if path.fits(wanted, trial, 0, 0) {
+        let fits = path.fits(wanted, trial, 0, 0);
+        if fits {
             path.keep(wanted, trial, 0, 0)?;
-            path.marks.clear();
-            let _choice = path.choices.pop();
-        } else {
-            path.choices.clear();
         }
+        let _mark = path.marks.pop();
+        let _choice = path.choices.pop();
         Ok(path)
     }
 
     fn new(alloc: Global, wanted: Wanted) -> Result<Path, Memory> {
-        let mut choices = Vec::new(alloc);
-        choices.push(0)?;
+        let scene = Scene::new(alloc, wanted.plan, wanted.script, wanted.lines)?;
+        let mut choices = Gathered::new(alloc);
+        choices.add(0);
         Ok(Path {
-            scene: Scene::new(alloc, wanted.plan, wanted.script, wanted.lines)?,
+            scene,
             choices,
-            marks: Vec::new(alloc),
+            marks: Gathered::new(alloc),
             done: 0,
             polls: 0,
             noted: 0,
@@ -121,30 +144,27 @@ impl Path {
                 return awake;
             }
         }
-        let first = *self.choices.last()?;
-        let count = u32::from(wanted.script.coroutines());
-        let most = if wanted.ordered {
-            count.saturating_add(1)
-        } else {
-            count.saturating_mul(4)
-        };
+        let first = self.choices.pop()?;
+        let mut next = first;
         let mut found = None;
-        let mut tried = most;
-        for choice in first..most {
-            found = if wanted.ordered {
-                self.tag_of_log(wanted, choice)
-            } else {
-                self.tag_of_report(wanted, trial, choice)
-            };
+        for choice in first..wanted.most_choices() {
+            next = choice.saturating_add(1);
+            found = self.tag_of(wanted, trial, choice);
             if found.is_some() {
-                tried = choice.saturating_add(1);
                 break;
             }
         }
-        if let Some(last) = self.choices.last_mut() {
-            *last = tried;
-        }
+        self.choices.add(next);
         found
+    }
+
+    /// The coroutine of a choice, if it is to be tried.
+    fn tag_of(&mut self, wanted: Wanted, trial: &Trial<Notes>, choice: u32) -> Option<Tag> {
+        if wanted.ordered {
+            self.tag_of_log(wanted, choice)
+        } else {
+            self.tag_of_report(wanted, trial, choice)
+        }
     }
 
     /// The coroutine of a choice: that of the next line, and then any other.
@@ -167,27 +187,16 @@ impl Path {
             _ => Rank::Never,
         };
         let tag = self.turned(wanted, trial, choice.checked_rem(count)?)?;
-        if self
-            .scene
-            .rank(wanted.view(trial), tag, written_by(trial, tag))
-            == tried
-        {
-            Some(tag)
-        } else {
-            None
-        }
+        let number = written_by(trial, tag);
+        let rank = self.scene.rank(wanted.view(trial), tag, number);
+        if rank == tried { Some(tag) } else { None }
     }
 
     /// The coroutine of a choice, by the order in which this attempt tries them.
     fn turned(&self, wanted: Wanted, trial: &Trial<Notes>, choice: u32) -> Option<Tag> {
         let count = u32::from(wanted.script.coroutines());
-        if choice >= count {
-            return None;
-        }
-        let last = match trial.made().last() {
-            Some(tag) => u32::from(*tag),
-            None => 0,
-        };
+        let made = trial.made();
+        let last = u32::from(at(made, made.len().saturating_sub(1), 0));
         let turn = match wanted.attempt {
             0 => last,
             1 => last.saturating_add(1),
@@ -200,27 +209,25 @@ impl Path {
 
     /// Whether what a poll wrote is what was wanted.
     fn fits(&mut self, wanted: Wanted, trial: &Trial<Notes>, tag: Tag, before: usize) -> bool {
-        let written = written_by(trial, tag);
-        for number in before..written {
-            let line = self.done.saturating_add(number.saturating_sub(before));
-            let fit = match wanted.plan.line_of(tag, number) {
-                Some(at) => {
-                    (!wanted.ordered || at == line)
-                        && is_same(wanted.lines.get(at), item_of(trial, tag, number))
-                }
-                None => false,
-            };
-            if !fit {
-                let written = item_of(trial, tag, number);
-                if wanted.ordered {
-                    self.reach(line, line.saturating_add(1), Hint::Instead(tag, written));
-                } else {
-                    self.differs(wanted.plan.line_of(tag, number), tag, written);
-                }
+        let mut line = self.done;
+        for number in before..written_by(trial, tag) {
+            if !is_wanted(wanted, trial, tag, number, line) {
+                self.miss(wanted, trial, tag, number, line);
                 return false;
             }
+            line = line.saturating_add(1);
         }
         true
+    }
+
+    /// The line with this number among those of a coroutine is not what was wanted; it would be this one of all.
+    fn miss(&mut self, wanted: Wanted, trial: &Trial<Notes>, tag: Tag, number: usize, line: usize) {
+        let written = item_of(trial, tag, number);
+        if wanted.ordered {
+            self.reach(line, line.saturating_add(1), Hint::Instead(tag, written));
+        } else {
+            self.differs(wanted.plan.line_of(tag, number), tag, written);
+        }
     }
 
     /// So many lines were written, and then this one could not be. What was known first of a line stays.
@@ -236,11 +243,10 @@ impl Path {
     }
 
     /// A coroutine did this in place of its next line, or nothing; it is kept if that is the line that could not be written.
-    fn differs(&mut self, at: Option<usize>, tag: Tag, written: Option<Item>) {
-        if let Some(at) = at {
-            if at.saturating_add(1) == self.stuck && matches!(self.hint, Hint::Nothing) {
-                self.hint = Hint::Instead(tag, written);
-            }
+    fn differs(&mut self, line: u32, tag: Tag, written: Option<Item>) {
+        let is_stuck = (line as usize).saturating_add(1) == self.stuck;
+        if is_stuck && matches!(self.hint, Hint::Nothing) {
+            self.hint = Hint::Instead(tag, written);
         }
     }
 
@@ -256,8 +262,9 @@ impl Path {
         }
         for tag in self.first..wanted.script.coroutines() {
             self.first = tag;
-            if let Some(at) = wanted.plan.line_of(tag, written_by(trial, tag)) {
-                return at.saturating_add(1);
+            let line = wanted.plan.line_of(tag, written_by(trial, tag));
+            if line != NOWHERE {
+                return (line as usize).saturating_add(1);
             }
         }
         wanted.lines.len().saturating_add(1)
@@ -271,29 +278,33 @@ impl Path {
         tag: Tag,
         before: usize,
     ) -> Result<(), Memory> {
-        let written = written_by(trial, tag);
-        for number in before..written {
-            if let (Some(item), Some(at)) = (
-                item_of(trial, tag, number),
-                wanted.plan.line_of(tag, number),
-            ) {
-                if !wanted.ordered {
-                    self.scene.keep(wanted.plan, item, at)?;
-                }
-            }
+        if !wanted.ordered {
+            self.keep_lines(wanted, trial, tag, before);
         }
-        self.scene.mark()?;
+        self.scene.mark();
         if wanted.follows_wakes() {
-            self.scene.look_at(tag, wanted.attempt == 0)?;
+            self.scene.look_at(tag, wanted.attempt == 0);
         }
-        self.marks.push(self.done)?;
-        self.choices.push(0)?;
-        self.done = self.done.saturating_add(written.saturating_sub(before));
+        self.marks.add(self.done);
+        self.choices.add(0);
+        let written = written_by(trial, tag).saturating_sub(before);
+        self.done = self.done.saturating_add(written);
         if self.done > self.most {
             let stuck = self.first_left(wanted, trial);
             self.reach(self.done, stuck, Hint::Nothing);
         }
-        Ok(())
+        let whole = self.scene.is_whole() && self.marks.is_whole() && self.choices.is_whole();
+        if whole { Ok(()) } else { Err(Memory) }
+    }
+
+    /// Tells the scene of the lines that a poll wrote.
+    fn keep_lines(&mut self, wanted: Wanted, trial: &Trial<Notes>, tag: Tag, before: usize) {
+        for number in before..written_by(trial, tag) {
+            let line = wanted.plan.line_of(tag, number);
+            if let Some(item) = item_of(trial, tag, number) {
+                self.scene.keep(wanted.plan, item, line as usize);
+            }
+        }
     }
 
     /// Forgets what the last poll wrote. The answer says whether there was one.
@@ -322,18 +333,11 @@ impl Path {
         self.noted = self.noted.saturating_sub(1);
         self.numbers.clear();
         trial.push_key(&[], &mut self.numbers)?;
+        let mut key = hash_of(self.numbers.as_slice());
         for tag in 0..wanted.script.coroutines() {
-            self.numbers.push(written_by(trial, tag) as u64)?;
+            key = hash_with(key, written_by(trial, tag) as u64);
         }
-        let key = hash_of(self.numbers.as_slice());
         Ok(self.seen.insert(key)?)
-    }
-}
-
-fn is_same(line: Option<&Line>, item: Option<Item>) -> bool {
-    match (line, item) {
-        (Some(line), Some(item)) => same_item(line.item, item),
-        _ => false,
     }
 }
 
@@ -351,10 +355,15 @@ fn mixed(depth: usize, attempt: u32) -> u32 {
 fn hash_of(numbers: &[u64]) -> u64 {
     let mut hash = 14695981039346656037u64;
     for number in numbers {
-        hash = (hash ^ *number).wrapping_mul(1099511628211);
-        hash ^= hash >> 32;
+        hash = hash_with(hash, *number);
     }
     hash
+}
+
+/// That of a key with a number more.
+fn hash_with(hash: u64, number: u64) -> u64 {
+    let mixed = (hash ^ number).wrapping_mul(1099511628211);
+    mixed ^ (mixed >> 32)
 }
 
 /// Brings the run back to where it was before its last poll.

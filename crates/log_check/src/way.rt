@@ -61,8 +61,31 @@ fn go<G: Gate>(
 /// Looks for the order by one attempt.
 fn way_of<G: Gate>(alloc: Global, wanted: Wanted, gate: &G) -> Result<Way, Memory> {
     let mut trial = Trial::new(alloc, wanted.script)?;
-    let mut path = Path::begin(alloc, wanted, &trial)?;
-    if go(alloc, wanted, gate, &mut trial, &mut path)? {
+    way_by(alloc, wanted, gate, &mut trial)
+}
+
+/// The same by this run, which is at its beginning.
+fn way_by<G: Gate>(
+    alloc: Global,
+    wanted: Wanted,
+    gate: &G,
+    trial: &mut Trial<Notes>,
+) -> Result<Way, Memory>
+    requires { TrialStands (program_of wanted.script.now) trial.old }
+{
+    let mut path = Path::begin(alloc, wanted, trial)?;
+    let found = go(alloc, wanted, gate, trial, &mut path)?;
+    way_behind(alloc, trial, &path, found)
+}
+
+/// What a search came to, which has found all lines or not.
+fn way_behind(
+    alloc: Global,
+    trial: &Trial<Notes>,
+    path: &Path,
+    found: bool,
+) -> Result<Way, Memory> {
+    if found {
         Ok(Way::Found(Vec::from_slice(alloc, trial.made())?))
     } else {
         Ok(Way::Stuck(path.stuck, path.hint))
@@ -129,10 +152,12 @@ fn is_offer(item: Item) -> bool {
 /// The number, from 1, of the first line that no whole poll writes, as far as is seen without a run.
 fn first_of_cut_poll(lines: &[Line]) -> Option<usize> {
     let mut before = None;
-    for (at, line) in lines.iter().enumerate() {
+    let mut number = 1usize;
+    for line in lines {
         if is_of_cut_poll(before, *line) {
-            return Some(at.saturating_add(1));
+            return Some(number);
         }
+        number = number.saturating_add(1);
         before = Some(*line);
     }
     None
@@ -147,28 +172,46 @@ pub(crate) fn way_of_report<G: Gate>(
 ) -> Result<Way, Memory>
     requires { length text.now ≤ 67108864 }
 {
-    let lines = match lines_of(alloc, script, books_part(text)) {
-        Ok(lines) => lines,
-        Err(NoLines::AtLine(number)) => return Ok(Way::Stuck(number as usize, Hint::Nothing)),
-        Err(NoLines::Memory) => return Err(Memory),
-    };
-    if let Some(number) = first_of_cut_poll(lines.as_slice()) {
+    match lines_of(alloc, script, books_part(text)) {
+        Ok(lines) => way_of_lines(alloc, script, lines.as_slice(), gate),
+        Err(NoLines::AtLine(number)) => Ok(Way::Stuck(number as usize, Hint::Nothing)),
+        Err(NoLines::Memory) => Err(Memory),
+    }
+}
+
+/// An order of polls in which a run writes these lines, each coroutine its own.
+fn way_of_lines<G: Gate>(
+    alloc: Global,
+    script: &Script,
+    lines: &[Line],
+    gate: &G,
+) -> Result<Way, Memory> {
+    if let Some(number) = first_of_cut_poll(lines) {
         return Ok(Way::Stuck(number, Hint::OfSeveral));
     }
-    let plan = Plan::new(alloc, script, lines.as_slice())?;
-    let mut stuck = Way::Stuck(1, Hint::Nothing);
+    let plan = Plan::new(alloc, script, lines)?;
+    let wanted = Wanted {
+        script,
+        lines,
+        plan: &plan,
+        ordered: false,
+        attempt: 0,
+    };
+    first_way(alloc, wanted, gate)
+}
+
+/// Looks for the order by all attempts, until one finds it.
+fn first_way<G: Gate>(alloc: Global, wanted: Wanted, gate: &G) -> Result<Way, Memory> {
+    let mut line = 1usize;
+    let mut known = Hint::Nothing;
     for attempt in 0..ATTEMPTS {
-        let wanted = Wanted {
-            script,
-            lines: lines.as_slice(),
-            plan: &plan,
-            ordered: false,
-            attempt,
-        };
-        match way_of(alloc, wanted, gate)? {
+        match way_of(alloc, Wanted { attempt, ..wanted }, gate)? {
             Way::Found(order) => return Ok(Way::Found(order)),
-            other => stuck = other,
+            Way::Stuck(number, hint) => {
+                line = number;
+                known = hint;
+            }
         }
     }
-    Ok(stuck)
+    Ok(Way::Stuck(line, known))
 }
