@@ -45,21 +45,21 @@ fn close_done(hub: &Hub, pass: &mut Pass, alloc: Global, bells: &Bells) -> Resul
 fn end_later<R: Clock + Wait>(
     rt: &R,
     hub: &Hub,
-    mut pass: Pass,
+    pass: &mut Pass,
     forest: &Forest,
-    mut jobs: JobPass,
+    jobs: &mut JobPass,
     alloc: Global,
     bells: &Bells,
 ) -> bool
     requires shape { shape_of hub.now ≡ (Signal, 1) ∷ (Signal, 1) ∷ [] }
-    requires own { IsOwn hub.now pass 1 }
+    requires own { IsOwn hub.now pass.old 1 }
     requires size { forest.now.size.coroutines ≡ 2 }
-    requires jobs { IsOwnOfJobs forest.now jobs 1 }
+    requires jobs { IsOwnOfJobs forest.now jobs.old 1 }
 {
     sleep(rt, Duration::from_millis(PAUSE));
-    let finished = is_finished(alloc, forest, &mut jobs);
-    let open = close_done(hub, &mut pass, alloc, bells);
-    finished && matches!(open, Ok(true))
+    let finished = is_finished(alloc, forest, jobs);
+    let open = close_done(hub, pass, alloc, bells);
+    finished & matches!(open, Ok(true))
 }
 
 /// What the Job that the root has seen attached gives it.
@@ -96,7 +96,7 @@ pub(crate) fn awaited_meanwhile<R: Threads + Wait + Sync + Clock>(
     requires attached { is_some (replay (jobs_seen root.1).seen 1) ≡ true }
     requires child { IsOwn hub.now child.0 1 × IsOwnOfJobs forest.now child.1 1 }
 {
-    let ((root, root_jobs), (child, child_jobs)) = (root, child);
+    let ((root, root_jobs), (mut child, mut child_jobs)) = (root, child);
     let (result, ended) = join(
         rt,
         || -> Result<Value, Spent>
@@ -110,7 +110,7 @@ pub(crate) fn awaited_meanwhile<R: Threads + Wait + Sync + Clock>(
             requires own { IsOwn hub.now child 1 }
             requires size { forest.now.size.coroutines ≡ 2 }
             requires jobs { IsOwnOfJobs forest.now child_jobs 1 }
-        { end_later(rt, hub, child, forest, child_jobs, alloc, bells) },
+        { end_later(rt, hub, &mut child, forest, &mut child_jobs, alloc, bells) },
     );
     ended && matches!(result, Ok(9))
 }

@@ -24,7 +24,6 @@ use ring_bridge::Bells;
 use std::alloc::{AllocGlobal, Global};
 use std::random::RandomSource;
 use std::sync::Wait;
-use std::test::Fail;
 use std::thread::Threads;
 use std::time::Clock;
 
@@ -63,6 +62,13 @@ fn new_family(alloc: Global) -> Result<(Hub, Forest, Family), Memory>
     Ok((hub, forest, family))
 }
 
+/// The kind of the other coroutine's Job.
+const PLAIN: JobKind = JobKind {
+    supervisor: false,
+    scoped: false,
+    lazy: false,
+};
+
 /// The root attaches the other coroutine, whose body then ends with 9: whether the tag was free, and no child lives.
 fn is_attached_and_ended(
     alloc: Global,
@@ -76,14 +82,9 @@ fn is_attached_and_ended(
     ensures root { IsOwnOfJobs forest.now root.new 0 }
     ensures child { IsOwnOfJobs forest.now child.new 1 }
 {
-    let kind = JobKind {
-        supervisor: false,
-        scoped: false,
-        lazy: false,
-    };
     let attach = Call::Attach {
         parent: 0,
-        kind,
+        kind: PLAIN,
         tag: 1,
     };
     let attached = make_by(forest, 2, root, alloc, 0, attach);
@@ -185,24 +186,27 @@ impl<'hub, 'forest> Future for PolledOnce<'hub, 'forest> {
     }
 }
 
-/// A poll of the future: the future, if that was pending; and else what it gave.
+/// What a poll of the future gives. None: it was pending, and stays; or there is none.
 fn polled<'hub, 'forest, R: Wait + RandomSource + AllocGlobal>(
     rt: &R,
-    future: JobFuture<'hub, 'forest>,
-) -> (
-    Option<JobFuture<'hub, 'forest>>,
-    Option<Result<Value, Spent>>,
-)
-    requires stands { FutureStands future }
-    ensures stands { IfSome result.0 FutureStands }
+    held: &mut Option<JobFuture<'hub, 'forest>>,
+) -> Option<Result<Value, Spent>>
+    requires stands { IfSome held.old FutureStands }
+    ensures stands { IfSome held.new FutureStands }
 {
+    let Some(future) = held.take() else {
+        return None;
+    };
     let mut host = HostDrive::new(rt);
     let once = PolledOnce {
         future: Some(future),
     };
     match host.drive(once) {
-        Ok(polled) => polled,
-        Err(_) => (None, None),
+        Ok((future, result)) => {
+            *held = future;
+            result
+        }
+        Err(_) => None,
     }
 }
 
@@ -224,17 +228,13 @@ fn ends_while_awaited<R: Wait + RandomSource + AllocGlobal>(
     if !sees_child(forest, &mut root_jobs, &mut child_jobs) {
         return false;
     }
-    let future = JobFuture::new(hub, root, forest, root_jobs, 0, 0, 1);
-    let (Some(future), _) = polled(rt, future) else {
-        return false;
-    };
-    let (Some(future), _) = polled(rt, future) else {
-        return false;
-    };
+    let mut held = Some(JobFuture::new(hub, root, forest, root_jobs, 0, 0, 1));
+    let waits = polled(rt, &mut held).is_none();
+    let still = polled(rt, &mut held).is_none();
     let finished = is_finished(rt.alloc(), forest, &mut child_jobs);
     let open = end_at(hub, &mut child, 1, 1, 9);
-    let (_none, result) = polled(rt, future);
-    finished && open && matches!(result, Some(Ok(9)))
+    let result = polled(rt, &mut held);
+    waits & still & finished & open & matches!(result, Some(Ok(9)))
 }
 
 /// A Job that ended gives its result.
@@ -257,7 +257,7 @@ fn ended_before<R: Wait + RandomSource + AllocGlobal>(
     meet_passes(hub, &mut root, 0, &mut child, 1);
     let closed = close(hub, &mut child, 1, 1, 9).is_ok();
     let result = awaited(rt, hub, root, forest, root_jobs, &mut child_jobs);
-    finished && closed && matches!(result, Some(Ok(9)))
+    finished & closed & matches!(result, Some(Ok(9)))
 }
 
 /// A Job whose done channel is spent gives no result.
@@ -278,7 +278,7 @@ fn spent_before<R: Wait + RandomSource + AllocGlobal>(
     meet_passes(hub, &mut root, 0, &mut child, 1);
     let waits = receive(hub, &mut child, 1, 1);
     let result = awaited(rt, hub, root, forest, root_jobs, &mut child_jobs);
-    matches!(waits, Got::Waiting(0)) && matches!(result, Some(Err(Spent)))
+    matches!(waits, Got::Waiting(0)) & matches!(result, Some(Err(Spent)))
 }
 
 /// A thread sleeps until the Job that it awaits has ended.
@@ -300,16 +300,8 @@ fn sleeps<R: Threads + Wait + Sync + Clock + AllocGlobal>(
     if !sees_child(forest, &mut root_jobs, &mut child_jobs) {
         return false;
     }
-    let mine = (root, root_jobs);
-    awaited_meanwhile(
-        rt,
-        hub,
-        forest,
-        mine,
-        (child, child_jobs),
-        rt.alloc(),
-        bells,
-    )
+    let (mine, its) = ((root, root_jobs), (child, child_jobs));
+    awaited_meanwhile(rt, hub, forest, mine, its, rt.alloc(), bells)
 }
 
 /// Whether this check went as its name says, once the root has attached the other coroutine, whose body has ended.
@@ -324,15 +316,13 @@ fn went<R: Threads + Wait + RandomSource + Sync + Clock + AllocGlobal>(
     requires family { IsFamily hub.now forest.now family.root family.root_jobs family.child family.child_jobs }
 {
     let mut family = family;
-    if !is_attached_and_ended(
+    let ready = is_attached_and_ended(
         rt.alloc(),
         forest,
         &mut family.root_jobs,
         &mut family.child_jobs,
-    ) {
-        return false;
-    }
-    match check {
+    );
+    let went = match check {
         Check::AJobThatEndsWhileItsFutureWaitsGivesItsResult => {
             ends_while_awaited(rt, hub, forest, family)
         }
@@ -341,7 +331,8 @@ fn went<R: Threads + Wait + RandomSource + Sync + Clock + AllocGlobal>(
         Check::AThreadSleepsUntilTheJobThatItAwaitsHasEnded => {
             sleeps(rt, hub, forest, bells, family)
         }
-    }
+    };
+    ready & went
 }
 
 /// The same of a family of its own.
@@ -356,23 +347,23 @@ fn goes<R: Threads + Wait + RandomSource + Sync + Clock + AllocGlobal>(
     }
 }
 
-#[test]
-fn each_check_goes_as_its_name_says(rt: HostRuntime) -> Result<(), Fail> {
-    let bells = Bells::new(rt.alloc())?;
-    let found = [
+/// Whether each check went as its name says.
+pub(crate) fn found<R: Threads + Wait + RandomSource + Sync + Clock + AllocGlobal>(
+    rt: &R,
+    bells: &Bells,
+) -> [bool; 4] {
+    [
         goes(
-            &rt,
-            &bells,
+            rt,
+            bells,
             Check::AJobThatEndsWhileItsFutureWaitsGivesItsResult,
         ),
-        goes(&rt, &bells, Check::AJobThatEndedGivesItsResult),
-        goes(&rt, &bells, Check::AJobWhoseDoneChannelIsSpentGivesNoResult),
+        goes(rt, bells, Check::AJobThatEndedGivesItsResult),
+        goes(rt, bells, Check::AJobWhoseDoneChannelIsSpentGivesNoResult),
         goes(
-            &rt,
-            &bells,
+            rt,
+            bells,
             Check::AThreadSleepsUntilTheJobThatItAwaitsHasEnded,
         ),
-    ];
-    assert_eq!(rt; found, [true; 4]);
-    Ok(())
+    ]
 }

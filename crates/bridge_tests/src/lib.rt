@@ -2,7 +2,7 @@
 //! channels of owned values and of rings.
 //!
 //! - `pass_calls`: offers, receives and closes of one pass
-//! - `one_channel`: the checks of `streams`, `lists`, `together` and `at_once`
+//! - `one_channel`: the checks of `streams`, `lists`, `together` and `at_once`; and all checks of what waits on channels over words
 //! - `streams`: what streams give
 //! - `lists`: what comes of a list that is sent
 //! - `together`: a sender and a receiver under one drive

@@ -3,26 +3,29 @@ ghost use Rattle.std.specs.Prelude.{◌≡◌, ◌≤◌, false, IfOk};
 ghost use Rattle.channel_model.specs.Channels.{is_signal};
 ghost use Rattle.bridge_tests.specs.HubPasses.{AreTwo};
 
-use crate::{at_once, lists, streams, together};
+use crate::permits_wake::a_permit_that_is_handed_over_wakes_who_waits_for_it;
+use crate::streams::{
+    A_STREAM_THAT_DOES_NOT_WAIT_HAS_NONE_TO_GIVE_UP, A_STREAM_THAT_IS_DROPPED_TAKES_ITS_WAIT_BACK,
+    A_STREAM_THAT_IS_STOPPED_GIVES_ITS_ELEMENT_UP, A_STREAM_THAT_WAITS_STAYS_AT_ITS_PLACE, Step,
+};
+use crate::{at_once, jobs, lists, streams, together};
 use cell_words::{Hub, Pass};
 use channel_model::Kind;
 use co_base::Memory;
+use ring_bridge::Bells;
 use std::alloc::{AllocGlobal, Global};
 use std::random::RandomSource;
 use std::sync::Wait;
 use std::test::Fail;
 use std::thread::Threads;
 
-/// What is checked: the functions of these names.
+/// What is checked: the functions of these names, or all steps of a table.
 #[derive(Clone, Copy)]
 enum Check {
     AllElementsOfAClosedChannelComeInOrder,
     TheFaultIsTheLastItem,
-    AStreamThatIsStoppedGivesItsElementUp,
-    AStreamThatDoesNotWaitHasNoneToGiveUp,
-    AStreamThatIsDroppedTakesItsWaitBack,
+    AllSteps(&'static [Step]),
     ACollectThatIsDroppedTakesItsWaitBack,
-    AStreamThatWaitsStaysAtItsPlace,
     ADriveThatFailsMakesNoEntry,
     AListIsSentInOrder,
     AListIsNotSentToAClosedChannel,
@@ -57,11 +60,8 @@ fn went_on<R: Threads + Wait + RandomSource + AllocGlobal + Sync>(
     match check {
         Check::AllElementsOfAClosedChannelComeInOrder => streams::all_come(rt, hub, one, two),
         Check::TheFaultIsTheLastItem => streams::fault_is_last(rt, hub, one, two),
-        Check::AStreamThatIsStoppedGivesItsElementUp => streams::is_stopped(rt, hub, one, two),
-        Check::AStreamThatDoesNotWaitHasNoneToGiveUp => streams::is_idle(hub, one, two),
-        Check::AStreamThatIsDroppedTakesItsWaitBack => streams::is_dropped(rt, hub, one, two),
+        Check::AllSteps(steps) => streams::all_go(rt, hub, one, two, steps),
         Check::ACollectThatIsDroppedTakesItsWaitBack => streams::drops_collect(rt, hub, one, two),
-        Check::AStreamThatWaitsStaysAtItsPlace => streams::stays(rt, hub, one, two),
         Check::ADriveThatFailsMakesNoEntry => streams::fails(rt, hub, one, two),
         Check::AListIsSentInOrder => lists::is_sent(rt, hub, one, two),
         Check::AListIsNotSentToAClosedChannel => lists::is_not_sent(rt, hub, one, two),
@@ -88,41 +88,38 @@ fn went<R: Threads + Wait + RandomSource + AllocGlobal + Sync>(
     }
 }
 
+/// Whether each check went as its name says, on channels of these kinds and so many places.
+fn found<R: Threads + Wait + RandomSource + AllocGlobal + Sync>(rt: &R) -> [bool; 14] {
+    let (met, all, two) = (Kind::Rendezvous, Kind::Unlimited, Kind::Buffered(2));
+    let stopped = Check::AllSteps(&A_STREAM_THAT_IS_STOPPED_GIVES_ITS_ELEMENT_UP);
+    let idle = Check::AllSteps(&A_STREAM_THAT_DOES_NOT_WAIT_HAS_NONE_TO_GIVE_UP);
+    let dropped = Check::AllSteps(&A_STREAM_THAT_IS_DROPPED_TAKES_ITS_WAIT_BACK);
+    let stays = Check::AllSteps(&A_STREAM_THAT_WAITS_STAYS_AT_ITS_PLACE);
+    let at_once = Check::WhatOneThreadSendsTheOtherReceivesInOrder;
+    [
+        went(rt, Check::AllElementsOfAClosedChannelComeInOrder, two, 4),
+        went(rt, Check::TheFaultIsTheLastItem, met, 1),
+        went(rt, stopped, met, 4),
+        went(rt, idle, met, 4),
+        went(rt, dropped, met, 4),
+        went(rt, Check::ACollectThatIsDroppedTakesItsWaitBack, met, 4),
+        went(rt, stays, met, 2),
+        went(rt, Check::ADriveThatFailsMakesNoEntry, two, 4),
+        went(rt, Check::AListIsSentInOrder, all, 4),
+        went(rt, Check::AListIsNotSentToAClosedChannel, all, 4),
+        went(rt, Check::AListEndsWhereNoPlaceIsLeft, all, 1),
+        went(rt, Check::AListWhoseDriveFailsIsNotSent, all, 4),
+        went(rt, Check::ASenderAndAReceiverMeetUnderOneDrive, met, 8),
+        went(rt, at_once, Kind::Buffered(64), 10_001),
+    ]
+}
+
+/// All checks of what waits on channels over words.
 #[test]
 fn each_check_goes_as_its_name_says(rt: HostRuntime) -> Result<(), Fail> {
-    let met = Kind::Rendezvous;
-    let all = Kind::Unlimited;
-    let found = [
-        went(
-            &rt,
-            Check::AllElementsOfAClosedChannelComeInOrder,
-            Kind::Buffered(2),
-            4,
-        ),
-        went(&rt, Check::TheFaultIsTheLastItem, met, 1),
-        went(&rt, Check::AStreamThatIsStoppedGivesItsElementUp, met, 4),
-        went(&rt, Check::AStreamThatDoesNotWaitHasNoneToGiveUp, met, 4),
-        went(&rt, Check::AStreamThatIsDroppedTakesItsWaitBack, met, 4),
-        went(&rt, Check::ACollectThatIsDroppedTakesItsWaitBack, met, 4),
-        went(&rt, Check::AStreamThatWaitsStaysAtItsPlace, met, 2),
-        went(
-            &rt,
-            Check::ADriveThatFailsMakesNoEntry,
-            Kind::Buffered(2),
-            4,
-        ),
-        went(&rt, Check::AListIsSentInOrder, all, 4),
-        went(&rt, Check::AListIsNotSentToAClosedChannel, all, 4),
-        went(&rt, Check::AListEndsWhereNoPlaceIsLeft, all, 1),
-        went(&rt, Check::AListWhoseDriveFailsIsNotSent, all, 4),
-        went(&rt, Check::ASenderAndAReceiverMeetUnderOneDrive, met, 8),
-        went(
-            &rt,
-            Check::WhatOneThreadSendsTheOtherReceivesInOrder,
-            Kind::Buffered(64),
-            10_001,
-        ),
-    ];
-    assert_eq!(rt; found, [true; 14]);
+    let bells = Bells::new(rt.alloc())?;
+    let permit = a_permit_that_is_handed_over_wakes_who_waits_for_it(rt.alloc());
+    let (found, jobs) = (found(&rt), jobs::found(&rt, &bells));
+    assert_eq!(rt; (found, jobs, permit), ([true; 14], [true; 4], true));
     Ok(())
 }

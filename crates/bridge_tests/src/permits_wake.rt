@@ -12,7 +12,6 @@ use co_base::{Memory, Tag, Wakes};
 use note_book::{NoteBook, Notes};
 use permits::{Acquired, Permits, Released, acquire, fill, release};
 use std::alloc::Global;
-use std::test::Fail;
 
 /// A mutex.
 const MUTEX: Permits = Permits { c: 0, n: 1 };
@@ -46,28 +45,19 @@ fn new_mutex(alloc: Global) -> Result<(Hub, Pass, Pass, Pass), Memory>
     Ok((hub, main, one, two))
 }
 
-/// Fills the mutex, by the pass of tag 0.
-fn fill_by(hub: &Hub, mut pass: Pass, alloc: Global) -> Result<(), Memory>
-    requires of { IsOf hub.now pass }
-    requires may { MayFill 0 1 0 (hub_floor hub.now pass) }
+/// Fills the mutex, by the pass of tag 0. Answers whether there was memory.
+fn fill_by(hub: &Hub, pass: &mut Pass, book: &mut Notes, wakes: &mut Woken) -> bool
+    requires of { IsOf hub.now pass.old }
+    requires may { MayFill 0 1 0 (hub_floor hub.now pass.old) }
 {
-    let mut desk = Desk {
-        hub,
-        pass: &mut pass,
-    };
-    let mut book = Notes::new(alloc);
-    let mut wakes = Woken {
-        first: None,
-        more: false,
-    };
+    let mut desk = Desk { hub, pass };
     let mut caller = Caller {
         floor: &mut desk,
-        book: &mut book,
-        wakes: &mut wakes,
+        book,
+        wakes,
         who: 0,
     };
-    fill(&mut caller, &MUTEX)?;
-    Ok(())
+    fill(&mut caller, &MUTEX).is_ok()
 }
 
 /// The first holds the mutex, the second waits for it, and then the first releases it. Answers whether it went so.
@@ -94,67 +84,83 @@ fn hold_and_release<F: ChannelFloor, G: ChannelFloor, B: NoteBook, W: Wakes>(
 fn release_to_pass<F: ChannelFloor>(
     holder: &mut Caller<'_, '_, '_, F, Notes, Woken>,
     hub: &Hub,
-    mut pass: Pass,
-    alloc: Global,
+    pass: &mut Pass,
+    book: &mut Notes,
+    wakes: &mut Woken,
 ) -> Result<bool, Memory>
     requires holder { UsesPermits 0 1 holder.old.who 0 (F.view holder.old.floor.now) }
-    requires of { IsOf hub.now pass }
-    requires waiter { UsesPermits 0 1 2 0 (hub_floor hub.now pass) }
+    requires of { IsOf hub.now pass.old }
+    requires waiter { UsesPermits 0 1 2 0 (hub_floor hub.now pass.old) }
 {
-    let mut desk = Desk {
-        hub,
-        pass: &mut pass,
-    };
-    let mut book = Notes::new(alloc);
-    let mut wakes = Woken {
-        first: None,
-        more: false,
-    };
+    let mut desk = Desk { hub, pass };
     let mut waiter = Caller {
         floor: &mut desk,
-        book: &mut book,
-        wakes: &mut wakes,
+        book,
+        wakes,
         who: 2,
     };
     hold_and_release(holder, &mut waiter)
 }
 
-/// And the one who holds too. Answers whether it went so, and whom it woke.
-fn woken_by(
-    hub: &Hub,
-    mut pass: Pass,
-    of_waiter: Pass,
-    alloc: Global,
-) -> Result<(bool, Woken), Memory>
-    requires of { IsOf hub.now pass }
-    requires holder { UsesPermits 0 1 1 0 (hub_floor hub.now pass) }
-    requires of_waiter { IsOf hub.now of_waiter }
-    requires waiter { UsesPermits 0 1 2 0 (hub_floor hub.now of_waiter) }
-{
-    let mut desk = Desk {
-        hub,
-        pass: &mut pass,
-    };
-    let mut book = Notes::new(alloc);
-    let mut wakes = Woken {
-        first: None,
-        more: false,
-    };
-    let mut holder = Caller {
-        floor: &mut desk,
-        book: &mut book,
-        wakes: &mut wakes,
-        who: 1,
-    };
-    let went = release_to_pass(&mut holder, hub, of_waiter, alloc)?;
-    Ok((went, wakes))
+/// What a coroutine has noted, and whom it has woken.
+#[derive(Drop)]
+struct Own {
+    book: Notes,
+    woken: Woken,
 }
 
-#[test]
-fn a_permit_that_is_handed_over_wakes_who_waits_for_it(rt: HostRuntime) -> Result<(), Fail> {
-    let (hub, main, one, two) = new_mutex(rt.alloc())?;
-    fill_by(&hub, main, rt.alloc())?;
-    let (went, woken) = woken_by(&hub, one, two, rt.alloc())?;
-    assert_eq!(rt; (went, woken.first, woken.more), (true, Some(2), false));
-    Ok(())
+/// Nothing, and nobody.
+fn new_own(alloc: Global) -> Own {
+    Own {
+        book: Notes::new(alloc),
+        woken: Woken {
+            first: None,
+            more: false,
+        },
+    }
+}
+
+/// And the one who holds too. Answers whether it went so.
+fn went(hub: &Hub, pass: &mut Pass, own: &mut Own, of_waiter: &mut Pass, other: &mut Own) -> bool
+    requires of { IsOf hub.now pass.old }
+    requires holder { UsesPermits 0 1 1 0 (hub_floor hub.now pass.old) }
+    requires of_waiter { IsOf hub.now of_waiter.old }
+    requires waiter { UsesPermits 0 1 2 0 (hub_floor hub.now of_waiter.old) }
+{
+    let mut desk = Desk { hub, pass };
+    let mut holder = Caller {
+        floor: &mut desk,
+        book: &mut own.book,
+        wakes: &mut own.woken,
+        who: 1,
+    };
+    let released = release_to_pass(
+        &mut holder,
+        hub,
+        of_waiter,
+        &mut other.book,
+        &mut other.woken,
+    );
+    matches!(released, Ok(true))
+}
+
+/// Whether it went so on this mutex, and the one who waits was woken, and nobody else.
+fn is_woken(hub: &Hub, mut main: Pass, mut one: Pass, mut two: Pass, alloc: Global) -> bool
+    requires main { IsOf hub.now main × MayFill 0 1 0 (hub_floor hub.now main) }
+    requires one { IsOf hub.now one × UsesPermits 0 1 1 0 (hub_floor hub.now one) }
+    requires two { IsOf hub.now two × UsesPermits 0 1 2 0 (hub_floor hub.now two) }
+{
+    let mut own = new_own(alloc);
+    let mut other = new_own(alloc);
+    let filled = fill_by(hub, &mut main, &mut other.book, &mut other.woken);
+    let done = went(hub, &mut one, &mut own, &mut two, &mut other);
+    filled & done & (own.woken.first == Some(2)) & !own.woken.more
+}
+
+/// The same of a mutex of its own.
+pub(crate) fn a_permit_that_is_handed_over_wakes_who_waits_for_it(alloc: Global) -> bool {
+    match new_mutex(alloc) {
+        Ok((hub, main, one, two)) => is_woken(&hub, main, one, two, alloc),
+        Err(_) => false,
+    }
 }

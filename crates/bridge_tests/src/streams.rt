@@ -1,5 +1,6 @@
 //! What streams give.
-ghost use Rattle.std.specs.Prelude.{◌≡◌, ◌<◌, length, IfSome};
+ghost use Rattle.std.specs.Prelude.{◌≡◌, ◌<◌, false, length, IfSome, None};
+ghost use Rattle.channel_model.specs.Channels.{kind_at, is_signal};
 ghost use Rattle.cell_words.specs.Hubs.{shape_of, IsOwn};
 ghost use Rattle.future_bridge.specs.Streams.{Stands};
 ghost use Rattle.bridge_tests.specs.HubPasses.{AreTwo};
@@ -12,7 +13,7 @@ use future_bridge::{Drive, DriveError, HostDrive, ReceiveStream, Spent, Stopped,
 use futures::future::{Either, ready, select};
 use futures::task::{Context, Poll};
 use futures::{Future, Stream, StreamExt};
-use std::alloc::AllocGlobal;
+use std::alloc::{AllocGlobal, Global};
 use std::random::RandomSource;
 use std::sync::Wait;
 
@@ -58,23 +59,122 @@ impl<'a> Future for PolledOnce<'a> {
     }
 }
 
-/// A poll of the stream: the stream, whether the poll was pending, and the item that it gave.
+/// A step of a check: what is done with a stream, and what must come of it.
+#[derive(Clone, Copy)]
+pub(crate) enum Step {
+    /// A poll has to wait.
+    Waits,
+    /// A poll gives this element.
+    Gives(Value),
+    /// The other pass sends this element.
+    Sends(Value, Offered),
+    Stops(Stopped),
+    IsDropped,
+}
+
+/// Whether a poll of the stream is pending, and the element that it gives.
 fn polled<'a, R: Wait + RandomSource + AllocGlobal>(
     rt: &R,
-    stream: ReceiveStream<'a>,
-) -> Option<(ReceiveStream<'a>, bool, Option<Result<Value, Spent>>)>
-    requires stands { Stands stream }
-    ensures stands { IfSome result (λ r. Stands r.0) }
+    held: &mut Option<ReceiveStream<'a>>,
+) -> (bool, Option<Value>)
+    requires stands { IfSome held.old Stands }
+    ensures stands { IfSome held.new Stands }
 {
+    let Some(stream) = held.take() else {
+        return (false, None);
+    };
     let mut host = HostDrive::new(rt);
     let once = PolledOnce {
         stream: Some(stream),
     };
-    match host.drive(once) {
-        Ok(polled) => Some(polled),
-        Err(_) => None,
+    let Ok((stream, pending, item)) = host.drive(once) else {
+        return (false, None);
+    };
+    *held = Some(stream);
+    match item {
+        Some(Ok(value)) => (pending, Some(value)),
+        _ => (pending, None),
     }
 }
+
+/// Stops the stream. None: there is none.
+fn stopped(held: &mut Option<ReceiveStream<'_>>) -> Option<Stopped>
+    ensures none { held.new ≡ None }
+{
+    match held.take() {
+        Some(stream) => Some(stream.stop().1),
+        None => None,
+    }
+}
+
+/// Whether the step goes so.
+fn goes<'a, R: Wait + RandomSource + AllocGlobal>(
+    rt: &R,
+    hub: &Hub,
+    held: &mut Option<ReceiveStream<'a>>,
+    two: &mut Pass,
+    step: Step,
+) -> bool
+    requires stands { IfSome held.old Stands }
+    requires own { IsOwn hub.now two.old 2 }
+    requires channel { 0 < length (shape_of hub.now) }
+    requires kind { is_signal (kind_at (shape_of hub.now) 0) ≡ false }
+    ensures stands { IfSome held.new Stands }
+    ensures own { IsOwn hub.now two.new 2 }
+{
+    match step {
+        Step::Waits => polled(rt, held) == (true, None),
+        Step::Gives(value) => polled(rt, held) == (false, Some(value)),
+        Step::Sends(value, wanted) => send(hub, two, 2, value) == wanted,
+        Step::Stops(wanted) => stopped(held) == Some(wanted),
+        Step::IsDropped => {
+            *held = None;
+            true
+        }
+    }
+}
+
+/// Whether all steps go so: a stream of the first pass, and sends by the second.
+pub(crate) fn all_go<R: Wait + RandomSource + AllocGlobal>(
+    rt: &R,
+    hub: &Hub,
+    one: Pass,
+    mut two: Pass,
+    steps: &[Step],
+) -> bool
+    requires two { AreTwo hub.now one two }
+{
+    let mut held = Some(ReceiveStream::new(hub, one, 1, 0));
+    let mut right = true;
+    for &step in steps {
+        let went = goes(rt, hub, &mut held, &mut two, step);
+        right = right & went;
+    }
+    right
+}
+
+pub(crate) const A_STREAM_THAT_IS_STOPPED_GIVES_ITS_ELEMENT_UP: [Step; 3] = [
+    Step::Waits,
+    Step::Sends(5, Offered::Handed(0, 1)),
+    Step::Stops(Stopped::Undelivered(5)),
+];
+
+pub(crate) const A_STREAM_THAT_DOES_NOT_WAIT_HAS_NONE_TO_GIVE_UP: [Step; 1] = [Step::Stops(
+    Stopped::Idle,
+)];
+
+pub(crate) const A_STREAM_THAT_IS_DROPPED_TAKES_ITS_WAIT_BACK: [Step; 3] = [
+    Step::Waits,
+    Step::IsDropped,
+    Step::Sends(5, Offered::Held(1)),
+];
+
+pub(crate) const A_STREAM_THAT_WAITS_STAYS_AT_ITS_PLACE: [Step; 4] = [
+    Step::Waits,
+    Step::Waits,
+    Step::Sends(5, Offered::Handed(0, 1)),
+    Step::Gives(5),
+];
 
 /// Whether all elements are these, and the drive never failed.
 pub(crate) fn collects<R: Wait + RandomSource + AllocGlobal>(
@@ -124,49 +224,6 @@ pub(crate) fn fault_is_last<R: Wait + RandomSource + AllocGlobal>(
     matches!(waits, Got::Waiting(0)) && came
 }
 
-/// A stream that is stopped gives its element up.
-pub(crate) fn is_stopped<R: Wait + RandomSource + AllocGlobal>(
-    rt: &R,
-    hub: &Hub,
-    one: Pass,
-    mut two: Pass,
-) -> bool
-    requires two { AreTwo hub.now one two }
-{
-    let Some((stream, pending, _)) = polled(rt, ReceiveStream::new(hub, one, 1, 0)) else {
-        return false;
-    };
-    let sent = send(hub, &mut two, 2, 5);
-    let (_pass, stopped) = stream.stop();
-    let given_up = matches!(stopped, Stopped::Undelivered(5));
-    pending && matches!(sent, Offered::Handed(0, 1)) && given_up
-}
-
-/// One that does not wait has none to give up.
-pub(crate) fn is_idle(hub: &Hub, one: Pass, _two: Pass) -> bool
-    requires two { AreTwo hub.now one _two }
-{
-    let (_pass, stopped) = ReceiveStream::new(hub, one, 1, 0).stop();
-    matches!(stopped, Stopped::Idle)
-}
-
-/// A stream that is dropped takes its wait back.
-pub(crate) fn is_dropped<R: Wait + RandomSource + AllocGlobal>(
-    rt: &R,
-    hub: &Hub,
-    one: Pass,
-    mut two: Pass,
-) -> bool
-    requires two { AreTwo hub.now one two }
-{
-    let Some((stream, pending, _)) = polled(rt, ReceiveStream::new(hub, one, 1, 0)) else {
-        return false;
-    };
-    drop(stream);
-    let sent = send(hub, &mut two, 2, 5);
-    pending && matches!(sent, Offered::Held(1))
-}
-
 /// A collect that is dropped takes its wait back.
 pub(crate) fn drops_collect<R: Wait + RandomSource + AllocGlobal>(
     rt: &R,
@@ -188,56 +245,35 @@ pub(crate) fn drops_collect<R: Wait + RandomSource + AllocGlobal>(
     matches!(send(hub, &mut two, 2, 5), Offered::Held(1))
 }
 
-/// Two polls of a stream, which both have to wait.
-fn waits_twice<'a, R: Wait + RandomSource + AllocGlobal>(
-    rt: &R,
-    stream: ReceiveStream<'a>,
-) -> Option<ReceiveStream<'a>>
-    requires stands { Stands stream }
-    ensures stands { IfSome result Stands }
+/// Whether a drive that fails collects nothing.
+fn is_refused(hub: &Hub, pass: Pass, alloc: Global) -> bool
+    requires own { IsOwn hub.now pass 2 }
+    requires channel { 0 < length (shape_of hub.now) }
 {
-    let Some((stream, first, _)) = polled(rt, stream) else {
-        return None;
-    };
-    match polled(rt, stream) {
-        Some((stream, second, _)) => { if first & second { Some(stream) } else { None } }
-        None => None,
+    let mut refuses = Refuses { calls: 0 };
+    match collect_all(alloc, &mut refuses, hub, pass, 2, 0) {
+        Err(DriveError::Failed) => true,
+        _ => false,
     }
 }
 
-/// Whether the stream gives this element.
-fn gives<R: Wait + RandomSource + AllocGlobal>(
-    rt: &R,
-    stream: ReceiveStream<'_>,
-    value: Value,
-) -> bool
-    requires stands { Stands stream }
-{
-    match polled(rt, stream) {
-        Some((_stream, pending, item)) => {
-            !pending && matches!(item, Some(Ok(found)) if found == value)
-        }
-        None => false,
-    }
-}
-
-/// A stream that waits stays at its place.
-pub(crate) fn stays<R: Wait + RandomSource + AllocGlobal>(
+/// Whether these two elements are there, which the pass of tag 1 receives.
+fn are_there<R: Wait + RandomSource + AllocGlobal>(
     rt: &R,
     hub: &Hub,
     one: Pass,
-    mut two: Pass,
+    first: Value,
+    second: Value,
 ) -> bool
-    requires two { AreTwo hub.now one two }
+    requires own { IsOwn hub.now one 1 }
+    requires channel { 0 < length (shape_of hub.now) }
 {
-    let Some(stream) = waits_twice(rt, ReceiveStream::new(hub, one, 1, 0)) else {
-        return false;
-    };
-    let sent = send(hub, &mut two, 2, 5);
-    gives(rt, stream, 5) & matches!(sent, Offered::Handed(0, 1))
+    let mut held = Some(ReceiveStream::new(hub, one, 1, 0));
+    let one = polled(rt, &mut held) == (false, Some(first));
+    one & (polled(rt, &mut held) == (false, Some(second)))
 }
 
-/// A drive that fails makes no entry.
+/// A drive that fails makes no entry: both elements are there still.
 pub(crate) fn fails<R: Wait + RandomSource + AllocGlobal>(
     rt: &R,
     hub: &Hub,
@@ -246,18 +282,8 @@ pub(crate) fn fails<R: Wait + RandomSource + AllocGlobal>(
 ) -> bool
     requires two { AreTwo hub.now one two }
 {
-    let first = send(hub, &mut one, 1, 7);
-    let second = send(hub, &mut one, 1, 8);
-    let mut refuses = Refuses { calls: 0 };
-    let failed = matches!(
-        collect_all(rt.alloc(), &mut refuses, hub, two, 2, 0),
-        Err(DriveError::Failed)
-    );
-    let both = matches!((first, second), (Offered::Put(0), Offered::Put(1)));
-    // Both are there still.
-    let Some((stream, _, item)) = polled(rt, ReceiveStream::new(hub, one, 1, 0)) else {
-        return false;
-    };
-    let seven = matches!(item, Some(Ok(7)));
-    gives(rt, stream, 8) & seven & failed & both
+    let first = send(hub, &mut one, 1, 7) == Offered::Put(0);
+    let second = send(hub, &mut one, 1, 8) == Offered::Put(1);
+    let refused = is_refused(hub, two, rt.alloc());
+    first & second & refused & are_there(rt, hub, one, 7, 8)
 }

@@ -2,12 +2,21 @@
 ghost use Rattle.bridge_tests.specs.HubPasses.{AreTwo};
 
 use cell_words::{Hub, Pass};
-use future_bridge::{Drive, HostDrive, ReceiveStream, SendList, SendSink};
+use co_base::Value;
+use future_bridge::{Drive, HostDrive, ReceiveStream, SendList, SendSink, Spent};
 use futures::StreamExt;
 use futures::future::join;
 use std::alloc::AllocGlobal;
 use std::random::RandomSource;
 use std::sync::Wait;
+
+/// Whether memory was there for them, and they are 1, 2 and 3.
+fn are_three<E: Drop>(items: Result<Vec<Result<Value, Spent>>, E>) -> bool {
+    match items {
+        Ok(items) => items.as_slice() == [Ok(1), Ok(2), Ok(3)].as_slice(),
+        Err(_) => false,
+    }
+}
 
 /// A sender and a receiver meet at three elements.
 pub(crate) fn meet<R: Wait + RandomSource + AllocGlobal>(
@@ -24,11 +33,8 @@ pub(crate) fn meet<R: Wait + RandomSource + AllocGlobal>(
         .take(3)
         .collect(rt.alloc());
     let mut host = HostDrive::new(rt);
-    let Ok((sent, received)) = host.drive(join(sender, receiver)) else {
-        return false;
-    };
-    match received {
-        Ok(items) => sent.1.is_ok() && items.as_slice() == [Ok(1), Ok(2), Ok(3)].as_slice(),
+    match host.drive(join(sender, receiver)) {
+        Ok((sent, received)) => sent.1.is_ok() & are_three(received),
         Err(_) => false,
     }
 }

@@ -1,6 +1,6 @@
 -- Who came to a cell has come to it.
-use Rattle.std.specs.Prelude.{ℕ, ◌<◌, List, [], ◌∷◌, ◌++◌}
-use Rattle.std.proofs.Common.{sym, subst}
+use Rattle.std.specs.Prelude.{◌≡◌, ◌⊎◌, ℕ, ◌<◌, List, [], ◌∷◌, ◌++◌}
+use Rattle.std.proofs.Common.{⊎_elim, sym, subst}
 use Rattle.std.proofs.lemmas.List.Elements.{All-weaker, All-push}
 use Rattle.counted_cells.specs.declared.counted.Counted.{Counted}
 use Rattle.counted_cells.specs.declared.pass.CountedPass.{CountedPass}
@@ -17,9 +17,12 @@ pub all_still : (counted : Counted) (p q : CountedPass) (places : List ℕ) → 
     → AllCame counted p places → AllCame counted q places
 all_still counted p q places same stays h = All-weaker (Came counted p) (Came counted q) (came_still counted p q same stays) places h
 
--- and it waits in one cell more
-pub one_more : (counted : Counted) (p q : CountedPass) (places : List ℕ) (i : ℕ) → SamePass p q → Stays p.number (seen_by p) (seen_by q)
-    → AllCame counted p places
-    → i < counted.cells → MayGiveUp p.number i (now_in (seen_by q)) → AllCame counted q (places ++ i ∷ [])
-one_more counted p q places i same stays h lt may = All-push (Came counted q) places i (all_still counted p q places same stays h)
-    (lt, subst (λ n. HasCome n i (now_in (seen_by q))) (sym same.0) may.come)
+-- and it waits in one cell more, if that was noted
+pub one_more : (counted : Counted) (p q : CountedPass) (places after : List ℕ) (i : ℕ) → SamePass p q
+    → Stays p.number (seen_by p) (seen_by q) → AllCame counted p places → i < counted.cells → MayGiveUp p.number i (now_in (seen_by q))
+    → (after ≡ places ++ i ∷ []) ⊎ (after ≡ places) → AllCame counted q after
+one_more counted p q places after i same stays h lt may = ⊎_elim
+    (λ (e : after ≡ places ++ i ∷ []). subst (AllCame counted q) (sym e)
+    (All-push (Came counted q) places i (all_still counted p q places same stays h)
+    (lt, subst (λ n. HasCome n i (now_in (seen_by q))) (sym same.0) may.come)))
+    (λ (e : after ≡ places). subst (AllCame counted q) (sym e) (all_still counted p q places same stays h))

@@ -4,6 +4,7 @@ ghost use Rattle.std.specs.Prelude.{◌≡◌};
 ghost use Rattle.cell_words.specs.Hubs.{shape_of, IsOwn};
 ghost use Rattle.floor_tests.specs.Meetings.{two_channels};
 
+use crate::compare::compare;
 use crate::select_tests::{Found, USER, new_hub, select_on};
 use cell_calls::Desk;
 use cell_words::{Hub, Pass};
@@ -82,7 +83,7 @@ fn is_right(found: Found, offered: Offered) -> bool {
 fn a_select_and_a_send_of_two_threads_meet_or_miss_each_other(rt: HostRuntime) -> Result<(), Fail> {
     for _ in 0..100 {
         let (found, offered) = both(&rt)?;
-        assert_eq!(rt; is_right(found?, offered), true);
+        compare(&rt, &is_right(found?, offered), &true);
     }
     Ok(())
 }

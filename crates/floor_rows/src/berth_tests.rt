@@ -3,6 +3,7 @@ ghost use Rattle.std.specs.Prelude.{◌≡◌, ◌<◌, [], IfOk, length};
 ghost use Rattle.task_berths.specs.Answers.{HaveTags};
 ghost use Rattle.task_berths.specs.Seats.{count_of, view_of, IsSeatOf};
 
+use crate::compare::compare;
 use co_base::{Memory, Tag};
 use std::alloc::Global;
 use std::sync::Wait;
@@ -11,7 +12,7 @@ use std::thread::{Threads, join};
 use task_berths::{BerthSeat, Berths, Tagged, Taken};
 
 /// A task that counts how often it was visited.
-#[derive(Drop)]
+#[derive(Clone, Copy, Drop)]
 struct Job {
     tag: Tag,
     visits: u64,
@@ -36,33 +37,39 @@ fn two_jobs(alloc: Global) -> Result<Vec<Job>, Memory>
     Ok(jobs)
 }
 
+/// Whether the first seat, from which the second takes task 0 twice in vain, hears so as it leaves the task, and hears of the other task
+/// that it has; and then the second as it leaves task 0.
+fn asked(berths: &Berths<Job>, a: &mut BerthSeat<Job>, b: &mut BerthSeat<Job>) -> Option<[bool; 3]>
+    requires a { IsSeatOf berths.now a.old × ((view_of a.old).held ≡ []) }
+    requires b { IsSeatOf berths.now b.old × ((view_of b.old).held ≡ []) }
+    requires two { count_of berths.now ≡ 2 }
+{
+    let Taken::Task(job) = berths.take(a, 0) else {
+        return None;
+    };
+    let Taken::Task(other) = berths.take(a, 1) else {
+        return None;
+    };
+    let Taken::Busy = berths.take(b, 0) else {
+        return None;
+    };
+    let Taken::Busy = berths.take(b, 0) else {
+        return None;
+    };
+    let first = berths.leave(a, 0, job);
+    let of_other = berths.leave(a, 1, other);
+    let Taken::Task(job) = berths.take(b, 0) else {
+        return None;
+    };
+    Some([first, of_other, berths.leave(b, 0, job)])
+}
+
 #[test]
 fn a_seat_that_is_asked_hears_it_when_it_leaves(rt: HostRuntime) -> Result<(), Fail> {
     let (berths, mut a) = Berths::new(two_jobs(rt.alloc())?)?;
     let mut b = berths.split(&mut a);
-    let Taken::Task(job) = berths.take(&mut a, 0) else {
-        panic!(rt; "task 0 is not at home")
-    };
-    let Taken::Task(other) = berths.take(&mut a, 1) else {
-        panic!(rt; "task 1 is not at home")
-    };
-    let Taken::Busy = berths.take(&mut b, 0) else {
-        panic!(rt; "task 0 is not away")
-    };
-    let Taken::Busy = berths.take(&mut b, 0) else {
-        panic!(rt; "task 0 is not away still")
-    };
-    let asked = berths.leave(&mut a, 0, job);
-    let other_asked = berths.leave(&mut a, 1, other);
-    let Taken::Task(job) = berths.take(&mut b, 0) else {
-        panic!(rt; "task 0 did not come home")
-    };
-    let tag = job.tag();
-    let last_asked = berths.leave(&mut b, 0, job);
-    berths.end(&mut a, b);
-    let jobs = berths.close(a);
-    let found = ([asked, other_asked, last_asked], tag, jobs.len());
-    assert_eq!(rt; found, ([true, false, false], 0, 2));
+    let found = asked(&berths, &mut a, &mut b);
+    compare(&rt, &found, &Some([true, false, false]));
     Ok(())
 }
 
@@ -74,40 +81,26 @@ struct Visits {
     asked: u64,
 }
 
-impl Visits {
-    /// One more that found its task, and whether it was asked.
-    fn with_one(self, asked: bool) -> Visits {
-        Visits {
-            made: self.made.wrapping_add(1),
-            busy: self.busy,
-            asked: self.asked.wrapping_add(u64::from(asked)),
-        }
-    }
-
-    /// One more that found its task away.
-    fn with_busy(self) -> Visits {
-        Visits {
-            made: self.made,
-            busy: self.busy.wrapping_add(1),
-            asked: self.asked,
-        }
-    }
-}
-
 /// Takes a task, counts the visit, and leaves the task.
-fn visit(berths: &Berths<Job>, seat: &mut BerthSeat<Job>, tag: Tag, visits: Visits) -> Visits
+fn visit(berths: &Berths<Job>, seat: &mut BerthSeat<Job>, tag: Tag, visits: &mut Visits)
     requires seat { IsSeatOf berths.now seat.old }
     requires tag { tag < count_of berths.now }
     requires none { (view_of seat.old).held ≡ [] }
     ensures seat { IsSeatOf berths.now seat.new }
     ensures none { (view_of seat.new).held ≡ [] }
 {
-    let Taken::Task(mut job) = berths.take(seat, tag) else {
-        return visits.with_busy();
-    };
-    job.visits = job.visits.wrapping_add(1);
-    let asked = berths.leave(seat, tag, job);
-    visits.with_one(asked)
+    match berths.take(seat, tag) {
+        Taken::Task(job) => {
+            let visited = Job {
+                tag: job.tag,
+                visits: job.visits.wrapping_add(1),
+            };
+            let asked = berths.leave(seat, tag, visited);
+            visits.made = visits.made.wrapping_add(1);
+            visits.asked = visits.asked.wrapping_add(u64::from(asked));
+        }
+        Taken::Busy => visits.busy = visits.busy.wrapping_add(1),
+    }
 }
 
 /// Visits both tasks so many times.
@@ -125,8 +118,8 @@ fn visit_both(berths: &Berths<Job>, seat: BerthSeat<Job>, times: u32) -> (BerthS
         asked: 0,
     };
     for _ in 0..times {
-        visits = visit(berths, &mut seat, 0, visits);
-        visits = visit(berths, &mut seat, 1, visits);
+        visit(berths, &mut seat, 0, &mut visits);
+        visit(berths, &mut seat, 1, &mut visits);
     }
     (seat, visits)
 }
@@ -189,6 +182,6 @@ fn no_visit_of_two_threads_is_lost_and_no_leave_was_asked_without_a_busy_take(
         [40_000, 40_000],
         [false, false],
     );
-    assert_eq!(rt; (counted, visits, unasked), wanted);
+    compare(&rt, &(counted, visits, unasked), &wanted);
     Ok(())
 }

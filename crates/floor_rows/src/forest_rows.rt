@@ -7,11 +7,12 @@ ghost use Rattle.job_words.specs.Forests.{seen_by, IsOwn};
 ghost use Rattle.job_words.specs.Rangers.{ranger_floor, ranger_anchor};
 ghost use Rattle.one_thread_floor.specs.TreeFloors.{floor_of};
 
+use crate::compare::compare;
 use co_base::{Memory, Row, Tag, Value, Wakes};
 use floor_tests::NoWakes;
 use floor_tests::forest_shares::{
-    Answer, Call, Four, Share, Work, cancel_root, is_attached, make, make_by, meet_both,
-    new_forest, run, share_of, split_off, work_by,
+    Answer, Call, Four, Work, cancel_root, is_attached, make, make_by, meet_both, new_forest, run,
+    share_of, split_off, work_by,
 };
 use forest_calls::finish_up;
 use job_model::{
@@ -153,13 +154,6 @@ fn right_on_tree(alloc: Global, calls: &[(Tag, Call, Answer)]) -> Result<usize, 
     Ok(calls.len())
 }
 
-#[test]
-fn a_floor_of_one_thread_answers_calls_on_cancelled_jobs(rt: HostRuntime) -> Result<(), Fail> {
-    let right = right_on_tree(rt.alloc(), &CANCELLED)?;
-    assert_eq!(rt; right, 12);
-    Ok(())
-}
-
 /// The call of one of three tags, after all passes met.
 fn call_of_three(
     forest: &Forest,
@@ -213,36 +207,6 @@ fn right_of_three(
         }
     }
     Ok(calls.len())
-}
-
-/// How many of the calls answer so in a forest, from the first on.
-fn right_in_forest(
-    alloc: Global,
-    coroutines: u16,
-    scopes: u16,
-    calls: &[(Tag, Call, Answer)],
-) -> Result<usize, Memory>
-    requires some { 3 ≤ coroutines }
-    requires few { coroutines + scopes ≤ 16000 }
-{
-    let (forest, mut p) = new_forest(alloc, coroutines, scopes)?;
-    let mut q = split_off(&forest, &mut p, 1);
-    let mut r = split_off(&forest, &mut p, 2);
-    right_of_three(&forest, coroutines, alloc, &mut p, &mut q, &mut r, calls)
-}
-
-#[test]
-fn a_forest_answers_calls_on_cancelled_jobs(rt: HostRuntime) -> Result<(), Fail> {
-    let right = right_in_forest(rt.alloc(), 4, 0, &CANCELLED)?;
-    assert_eq!(rt; right, 12);
-    Ok(())
-}
-
-#[test]
-fn a_forest_gives_rows_out_and_ends_them(rt: HostRuntime) -> Result<(), Fail> {
-    let right = right_in_forest(rt.alloc(), 3, 1, &ENDED)?;
-    assert_eq!(rt; right, 7);
-    Ok(())
 }
 
 /// How many Jobs ended, and the last of them.
@@ -357,21 +321,64 @@ fn last_result(ends: LastEnd) -> Option<(Row, Value)> {
     }
 }
 
-/// How many of these calls answer so, how many Jobs ended when the child ended, with the last of them, and how many at its second end.
-fn ended_twice(alloc: Global) -> Result<(usize, u32, Option<(Row, Value)>, u32), Memory> {
-    let (forest, mut p) = new_forest(alloc, 3, 0)?;
-    let mut q = split_off(&forest, &mut p, 1);
-    let mut r = split_off(&forest, &mut p, 2);
-    let right = right_of_three(&forest, 3, alloc, &mut p, &mut q, &mut r, &TWO_ENDED)?;
-    let ends = finish_from(&forest, &mut r, alloc, 2, 2)?;
-    let again = finish_from(&forest, &mut r, alloc, 2, 2)?;
-    Ok((right, ends.count, last_result(ends), again.count))
+/// How many of a table's calls answer so in a forest, from the first on; how many Jobs end when tag 2 then ends its own, and how many when
+/// it does so once more; and the row and the result of the last of these, if it was completed.
+type Found = (usize, [u32; 2], Option<(Row, Value)>);
+
+/// The same by three passes.
+fn found_of_three(
+    forest: &Forest,
+    coroutines: u16,
+    alloc: Global,
+    p: &mut JobPass,
+    q: &mut JobPass,
+    r: &mut JobPass,
+    calls: &[(Tag, Call, Answer)],
+) -> Result<Found, Memory>
+    requires p { IsOwn forest.now p.old 0 }
+    requires q { IsOwn forest.now q.old 1 }
+    requires r { IsOwn forest.now r.old 2 }
+    requires size { forest.now.size.coroutines ≡ coroutines }
+{
+    let right = right_of_three(forest, coroutines, alloc, p, q, r, calls)?;
+    let ends = finish_from(forest, r, alloc, 2, 2)?;
+    let again = finish_from(forest, r, alloc, 2, 2)?;
+    Ok((right, [ends.count, again.count], last_result(ends)))
 }
 
+/// The same in a forest of its own.
+fn found_in_forest(
+    alloc: Global,
+    coroutines: u16,
+    scopes: u16,
+    calls: &[(Tag, Call, Answer)],
+) -> Result<Found, Memory>
+    requires some { 3 ≤ coroutines }
+    requires few { coroutines + scopes ≤ 16000 }
+{
+    let (forest, mut p) = new_forest(alloc, coroutines, scopes)?;
+    let mut q = split_off(&forest, &mut p, 1);
+    let mut r = split_off(&forest, &mut p, 2);
+    found_of_three(&forest, coroutines, alloc, &mut p, &mut q, &mut r, calls)
+}
+
+/// Calls on cancelled Jobs on a floor of one thread and in a forest; rows that a forest gives out, and ends; and a child whose end ends its
+/// parent.
 #[test]
-fn the_end_of_a_child_ends_its_parent_in_a_forest(rt: HostRuntime) -> Result<(), Fail> {
-    let found = ended_twice(rt.alloc())?;
-    assert_eq!(rt; found, (4, 2, Some((1, 8)), 0));
+fn calls_on_jobs_are_answered_as_their_tables_say(rt: HostRuntime) -> Result<(), Fail> {
+    let alloc = rt.alloc();
+    let on_tree = right_on_tree(alloc, &CANCELLED)?;
+    let found = [
+        found_in_forest(alloc, 4, 0, &CANCELLED)?,
+        found_in_forest(alloc, 3, 1, &ENDED)?,
+        found_in_forest(alloc, 3, 0, &TWO_ENDED)?,
+    ];
+    let wanted: [Found; 3] = [
+        (12, [0, 0], None),
+        (7, [0, 0], None),
+        (4, [2, 0], Some((1, 8))),
+    ];
+    compare(&rt, &(on_tree, found), &(12, wanted));
     Ok(())
 }
 
@@ -381,37 +388,30 @@ fn children_of_root(
     coroutines: u16,
     pass: &mut JobPass,
     alloc: Global,
-) -> Result<(u16, u32, u32), Memory>
+) -> (u16, u32, u32)
     requires own { IsOwn forest.now pass.old 0 }
     requires size { forest.now.size.coroutines ≡ coroutines }
     ensures own { IsOwn forest.now pass.new 0 }
 {
-    let Answer::Seen(Some(root)) = make_by(
-        forest,
-        coroutines,
-        pass,
-        alloc,
-        0,
-        Call::Look { row: 0 },
-    )?
-    else {
-        return Ok((0, 0, 0));
+    let look = Call::Look { row: 0 };
+    let Ok(Answer::Seen(Some(root))) = make_by(forest, coroutines, pass, alloc, 0, look) else {
+        return (0, 0, 0);
     };
     let mut next = root.first_child;
     let mut count = 0u32;
     let mut sum = 0u32;
     for _ in 0..coroutines {
         let Some(row) = next else {
-            return Ok((root.living, count, sum));
+            return (root.living, count, sum);
         };
         count = count.saturating_add(1);
         sum = sum.saturating_add(u32::from(row));
-        next = match make_by(forest, coroutines, pass, alloc, 0, Call::Link { row })? {
-            Answer::Linked(link) => link.next,
+        next = match make_by(forest, coroutines, pass, alloc, 0, Call::Link { row }) {
+            Ok(Answer::Linked(link)) => link.next,
             _ => None,
         };
     }
-    Ok((root.living, count, sum))
+    (root.living, count, sum)
 }
 
 /// How many tags each of four threads attached, and the children of the root.
@@ -427,13 +427,13 @@ fn attached_by_four<R: Threads + Wait + Sync>(
     let four = Four { a, b, c, d };
     let four = work_by(rt, &forest, 801, alloc, four, Work::Attach, 4);
     let counts = [four.a.count, four.b.count, four.c.count, four.d.count];
-    Ok((counts, children_of_root(&forest, 801, &mut main, alloc)?))
+    Ok((counts, children_of_root(&forest, 801, &mut main, alloc)))
 }
 
 #[test]
 fn four_threads_attach_their_tags_to_the_root(rt: HostRuntime) -> Result<(), Fail> {
     let found = attached_by_four(&rt, rt.alloc())?;
-    assert_eq!(rt; found, ([200, 200, 200, 200], (800, 800, 320400)));
+    compare(&rt, &found, &([200, 200, 200, 200], (800, 800, 320400)));
     Ok(())
 }
 
@@ -443,23 +443,22 @@ fn attached_and_not_cancelled(
     coroutines: u16,
     pass: &mut JobPass,
     alloc: Global,
-) -> Result<(u32, u32), Memory>
+) -> [u32; 2]
     requires own { IsOwn forest.now pass.old 0 }
     requires size { forest.now.size.coroutines ≡ coroutines }
-    ensures own { IsOwn forest.now pass.new 0 }
 {
     let mut attached = 0u32;
     let mut not_cancelled = 0u32;
     for row in 0..coroutines {
-        let seen = make_by(forest, coroutines, pass, alloc, 0, Call::Look { row })?;
-        if let Answer::Seen(Some(job)) = seen {
+        let seen = make_by(forest, coroutines, pass, alloc, 0, Call::Look { row });
+        if let Ok(Answer::Seen(Some(job))) = seen {
             attached = attached.saturating_add(1);
             if job.state.is_cancellable() {
                 not_cancelled = not_cancelled.saturating_add(1);
             }
         }
     }
-    Ok((attached, not_cancelled))
+    [attached, not_cancelled]
 }
 
 /// Cancels the root and all below it.
@@ -471,23 +470,12 @@ fn cancel_with(forest: &Forest, mut pass: JobPass, alloc: Global) -> (JobPass, O
     (pass, count.ok())
 }
 
-/// What one thread attaches below while another cancels the root.
-#[derive(Clone, Copy, Debug, PartialEq, Eq)]
-struct AtOnce {
-    /// How many were attached before.
-    before: u32,
-    /// How many were attached at the same time.
-    below: u32,
-    /// How many were cancelled, but 601 if there are more.
-    cancelled: u32,
-    /// How many rows are attached, and how many of their Jobs are neither Cancelling nor ended.
-    left: (u32, u32),
-}
-
+/// What one thread attaches below while another cancels the root: how many were attached before, how many at the same time, and how many
+/// were cancelled, but 601 if there are more; and how many rows are attached, and how many of their Jobs are neither Cancelling nor ended.
 fn attached_and_cancelled<R: Threads + Wait + Sync>(
     rt: &R,
     alloc: Global,
-) -> Result<AtOnce, Memory> {
+) -> Result<([u32; 3], [u32; 2]), Memory> {
     let (forest, mut main) = new_forest(alloc, 1201, 0)?;
     let before = share_of(&forest, &mut main, 1, 601);
     let below = share_of(&forest, &mut main, 601, 1201);
@@ -497,26 +485,16 @@ fn attached_and_cancelled<R: Threads + Wait + Sync>(
         || cancel_with(&forest, main, alloc),
         || run(&forest, 1201, alloc, below, Work::AttachBelow),
     );
-    let left = attached_and_not_cancelled(&forest, 1201, &mut main, alloc)?;
-    Ok(AtOnce {
-        before: before.count,
-        below: below.count,
-        cancelled: count.unwrap_or(0).min(601),
-        left,
-    })
+    let cancelled = count.unwrap_or(0).min(601);
+    let left = attached_and_not_cancelled(&forest, 1201, &mut main, alloc);
+    Ok(([before.count, below.count, cancelled], left))
 }
 
 #[test]
 fn what_is_attached_below_a_cancelled_job_is_cancelled(rt: HostRuntime) -> Result<(), Fail> {
-    let wanted = AtOnce {
-        before: 600,
-        below: 600,
-        cancelled: 601,
-        left: (1201, 0),
-    };
     for _ in 0..20 {
         let found = attached_and_cancelled(&rt, rt.alloc())?;
-        assert_eq!(rt; found, wanted);
+        compare(&rt, &found, &([600, 600, 601], [1201, 0]));
     }
     Ok(())
 }

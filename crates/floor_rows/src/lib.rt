@@ -1,6 +1,7 @@
 //! Tests of what coroutines and workers share: floors of channels, permits over them, floors of Jobs, seats and berths, lanes and crews,
 //! counted cells and gates.
 //!
+//! - `compare`: what every test ends with.
 //! - `known`, `known_calls`: calls on one channel, each made where what it asks is known, so that a list of calls can be a table.
 //! - `rows`: such tables, on a floor of lists and over words.
 //! - `select_tests`: a select of two receives, while another coroutine calls in between: on lists, and over words.
@@ -20,6 +21,8 @@
 mod at_once;
 #[cfg(test)]
 mod berth_tests;
+#[cfg(test)]
+mod compare;
 mod crews;
 #[cfg(test)]
 mod forest_rows;

@@ -8,6 +8,7 @@ ghost use Rattle.word_rules.specs.Cells.{spot};
 ghost use Rattle.word_rules.specs.Words.{IsCell};
 ghost use Rattle.cell_words.specs.Hubs.{shape_of, seen_by, IsOf, IsOwn};
 
+use crate::compare::compare;
 use cell_words::{Hub, Pass, load_cell, look_at, places_of};
 use channel_model::{Got, Kind, Offered, Settled, WaitState, Why, Withdrawn};
 use co_base::{Place, Tag, Value, WaitId};
@@ -15,15 +16,37 @@ use std::sync::Wait;
 use std::test::Fail;
 use std::thread::{Threads, join};
 
-/// What the calls of one coroutine came to.
+/// What some calls came to.
 #[derive(Clone, Copy, Drop)]
 struct Tally {
-    /// How many found somebody of the other side.
+    /// How many found somebody of the other side; of looks, how many waits were resolved; of ends, how many receivers were handed an
+    /// element.
     met: u32,
-    /// How many began to wait.
+    /// How many began to wait; of looks, how many waits stand; of ends, how many offers were received.
     waits: u32,
-    /// The sum of the elements that were received at once.
+    /// The sum of the elements that were received.
     received: u32,
+}
+
+const NONE: Tally = Tally {
+    met: 0,
+    waits: 0,
+    received: 0,
+};
+
+const WAITS: Tally = Tally {
+    met: 0,
+    waits: 1,
+    received: 0,
+};
+
+/// One that met somebody, and received this.
+fn met(received: u32) -> Tally {
+    Tally {
+        met: 1,
+        waits: 0,
+        received,
+    }
 }
 
 impl Tally {
@@ -32,45 +55,6 @@ impl Tally {
         Tally {
             met: self.met.wrapping_add(other.met),
             waits: self.waits.wrapping_add(other.waits),
-            received: self.received.wrapping_add(other.received),
-        }
-    }
-}
-
-/// How far the waits of one coroutine are.
-#[derive(Clone, Copy, Drop)]
-struct OwnWaits {
-    standing: u32,
-    resolved: u32,
-}
-
-impl OwnWaits {
-    /// Both, added.
-    fn and(self, other: OwnWaits) -> OwnWaits {
-        OwnWaits {
-            standing: self.standing.wrapping_add(other.standing),
-            resolved: self.resolved.wrapping_add(other.resolved),
-        }
-    }
-}
-
-/// How the waits of one coroutine ended.
-#[derive(Clone, Copy, Drop)]
-struct Endings {
-    /// How many offers were received.
-    sent: u32,
-    /// How many receivers were handed an element.
-    handed: u32,
-    /// The sum of those elements.
-    received: u32,
-}
-
-impl Endings {
-    /// Both, added.
-    fn and(self, other: Endings) -> Endings {
-        Endings {
-            sent: self.sent.wrapping_add(other.sent),
-            handed: self.handed.wrapping_add(other.handed),
             received: self.received.wrapping_add(other.received),
         }
     }
@@ -164,100 +148,89 @@ fn look(hub: &Hub, pass: &mut Pass, who: Tag, place: Place) -> Option<WaitState>
     None
 }
 
-/// Offers 1,000 elements, from this one on.
-fn offers(hub: &Hub, pass: &mut Pass, who: Tag, first: Value) -> Tally
+fn of_offer(offered: Offered) -> Tally {
+    match offered {
+        Offered::Handed(_, _) => met(0),
+        Offered::Held(_) => WAITS,
+        Offered::Put(_) | Offered::Closed(_) | Offered::Spent => NONE,
+    }
+}
+
+fn of_got(got: Got) -> Tally {
+    match got {
+        Got::Taken(_, value, _) => met(value),
+        Got::Waiting(_) => WAITS,
+        Got::Closed(_) | Got::Spent => NONE,
+    }
+}
+
+/// An offer of the i-th element from this one on, or a receive.
+fn call(hub: &Hub, pass: &mut Pass, who: Tag, offers: Option<Value>, i: u32) -> Tally
     requires own { IsOwn hub.now pass.old who }
     requires channel { 0 < length (shape_of hub.now) }
     requires kind { is_signal (kind_at (shape_of hub.now) 0) ≡ false }
     ensures own { IsOwn hub.now pass.new who }
 {
-    let mut met = 0u32;
-    let mut waits = 0u32;
-    'calls: for i in 0u32..1000 {
-        match offer(hub, pass, who, first.wrapping_add(i)) {
-            Offered::Handed(_, _) => met = met.wrapping_add(1),
-            Offered::Held(_) => waits = waits.wrapping_add(1),
-            Offered::Put(_) | Offered::Closed(_) | Offered::Spent => {}
-        }
-    }
-    Tally {
-        met,
-        waits,
-        received: 0,
+    match offers {
+        Some(first) => of_offer(offer(hub, pass, who, first.wrapping_add(i))),
+        None => of_got(receive(hub, pass, who)),
     }
 }
 
-/// Receives 1,000 times.
-fn receives(hub: &Hub, pass: &mut Pass, who: Tag) -> Tally
+/// 1,000 calls.
+fn calls(hub: &Hub, pass: &mut Pass, who: Tag, offers: Option<Value>) -> Tally
     requires own { IsOwn hub.now pass.old who }
     requires channel { 0 < length (shape_of hub.now) }
+    requires kind { is_signal (kind_at (shape_of hub.now) 0) ≡ false }
     ensures own { IsOwn hub.now pass.new who }
 {
-    let mut met = 0u32;
-    let mut waits = 0u32;
-    let mut received = 0u32;
-    'calls: for _ in 0..1000 {
-        match receive(hub, pass, who) {
-            Got::Taken(_, value, _) => {
-                met = met.wrapping_add(1);
-                received = received.wrapping_add(value);
-            }
-            Got::Waiting(_) => waits = waits.wrapping_add(1),
-            Got::Closed(_) | Got::Spent => {}
-        }
+    let mut tally = NONE;
+    'calls: for i in 0u32..1000 {
+        tally = tally.and(call(hub, pass, who, offers, i));
     }
-    Tally {
-        met,
-        waits,
-        received,
+    tally
+}
+
+fn of_state(state: Option<WaitState>) -> Tally {
+    match state {
+        Some(WaitState::Standing) => WAITS,
+        Some(WaitState::Resolved) => met(0),
+        Some(WaitState::Settled) | None => NONE,
     }
 }
 
 /// How far the own waits are.
-fn look_at_all(hub: &Hub, pass: &mut Pass, who: Tag) -> OwnWaits
+fn look_at_all(hub: &Hub, pass: &mut Pass, who: Tag) -> Tally
     requires own { IsOwn hub.now pass.old who }
     requires channel { 0 < length (shape_of hub.now) }
     ensures own { IsOwn hub.now pass.new who }
 {
-    let mut standing = 0u32;
-    let mut resolved = 0u32;
+    let mut tally = NONE;
     'waits: for place in 0..places_of(hub, 0) {
-        match look(hub, pass, who, place) {
-            Some(WaitState::Standing) => standing = standing.wrapping_add(1),
-            Some(WaitState::Resolved) => resolved = resolved.wrapping_add(1),
-            Some(WaitState::Settled) | None => {}
-        }
+        tally = tally.and(of_state(look(hub, pass, who, place)));
     }
-    OwnWaits { standing, resolved }
+    tally
+}
+
+fn of_end(end: Option<Settled>) -> Tally {
+    match end {
+        Some(Settled::Sent(_)) => WAITS,
+        Some(Settled::Value(_, value)) => met(value),
+        _ => NONE,
+    }
 }
 
 /// Settles the own waits that were resolved.
-fn settle_all(hub: &Hub, pass: &mut Pass, who: Tag) -> Endings
+fn settle_all(hub: &Hub, pass: &mut Pass, who: Tag) -> Tally
     requires own { IsOwn hub.now pass.old who }
     requires channel { 0 < length (shape_of hub.now) }
     ensures own { IsOwn hub.now pass.new who }
 {
-    let mut sent = 0u32;
-    let mut handed = 0u32;
-    let mut received = 0u32;
+    let mut tally = NONE;
     'waits: for place in 0..places_of(hub, 0) {
-        match settle(hub, pass, who, place, false) {
-            Some(Settled::Sent(_)) => sent = sent.wrapping_add(1),
-            Some(Settled::Value(_, value)) => {
-                handed = handed.wrapping_add(1);
-                received = received.wrapping_add(value);
-            }
-            Some(Settled::Closed(_, _))
-            | Some(Settled::Cancelled)
-            | Some(Settled::Undelivered(_))
-            | None => {}
-        }
+        tally = tally.and(of_end(settle(hub, pass, who, place, false)));
     }
-    Endings {
-        sent,
-        handed,
-        received,
-    }
+    tally
 }
 
 /// One coroutine with its pass, and the first of the elements that it offers, where it does not receive.
@@ -273,16 +246,11 @@ fn caller_of(hub: &Hub, pass: Pass, who: Tag, offers: Option<Value>) -> Caller
     requires own { IsOwn hub.now pass who }
     ensures own { IsOwn hub.now result.pass result.who }
 {
-    let tally = Tally {
-        met: 0,
-        waits: 0,
-        received: 0,
-    };
     Caller {
         pass,
         who,
         offers,
-        tally,
+        tally: NONE,
     }
 }
 
@@ -293,22 +261,9 @@ fn work(hub: &Hub, caller: Caller) -> Caller
     requires kind { is_signal (kind_at (shape_of hub.now) 0) ≡ false }
     ensures own { IsOwn hub.now result.pass result.who }
 {
-    let Caller {
-        mut pass,
-        who,
-        offers: first,
-        tally: _,
-    } = caller;
-    let tally = match first {
-        Some(value) => offers(hub, &mut pass, who, value),
-        None => receives(hub, &mut pass, who),
-    };
-    Caller {
-        pass,
-        who,
-        offers: first,
-        tally,
-    }
+    let mut caller = caller;
+    caller.tally = calls(hub, &mut caller.pass, caller.who, caller.offers);
+    caller
 }
 
 /// The work of two, by a thread each.
@@ -360,45 +315,6 @@ fn by_four<R: Threads + Wait + Sync>(
     )
 }
 
-/// The own waits of a coroutine after its calls.
-fn waits_after(hub: &Hub, caller: Caller) -> (Caller, OwnWaits)
-    requires own { IsOwn hub.now caller.pass caller.who }
-    requires channel { 0 < length (shape_of hub.now) }
-    ensures own { IsOwn hub.now result.0.pass result.0.who }
-{
-    let Caller {
-        mut pass,
-        who,
-        offers,
-        tally,
-    } = caller;
-    let waits = look_at_all(hub, &mut pass, who);
-    let after = Caller {
-        pass,
-        who,
-        offers,
-        tally,
-    };
-    (after, waits)
-}
-
-/// Ends the pass of a coroutine, and settles its waits by the pass that took it in.
-fn end_and_settle(hub: &Hub, main: &mut Pass, caller: Caller) -> Endings
-    requires main { IsOf hub.now main.old }
-    requires own { IsOwn hub.now caller.pass caller.who }
-    requires channel { 0 < length (shape_of hub.now) }
-    ensures main { IsOf hub.now main.new }
-{
-    let Caller {
-        pass,
-        who,
-        offers: _,
-        tally: _,
-    } = caller;
-    end_one(hub, main, pass, who);
-    settle_all(hub, main, who)
-}
-
 /// Ends a pass, whose coroutine may then call by the pass that took it in.
 fn end_one(hub: &Hub, main: &mut Pass, pass: Pass, who: Tag)
     requires main { IsOf hub.now main.old }
@@ -408,60 +324,53 @@ fn end_one(hub: &Hub, main: &mut Pass, pass: Pass, who: Tag)
     hub.end(main, pass);
 }
 
-/// What two coroutines came to that both offer, or both receive.
-#[derive(Clone, Copy, Drop)]
-struct Side {
-    tally: Tally,
-    /// How far their waits were when all threads had ended.
-    waits: OwnWaits,
-    endings: Endings,
-}
-
-/// Looks at the waits of two coroutines, ends their passes, and settles the waits.
-fn side_of(hub: &Hub, main: &mut Pass, a: Caller, b: Caller) -> Side
+/// What the calls of a coroutine came to, how far its waits are when all threads have ended, and how they ended, settled by the pass that
+/// took the coroutine's in.
+fn end(hub: &Hub, main: &mut Pass, caller: Caller) -> [Tally; 3]
     requires main { IsOf hub.now main.old }
-    requires a { IsOwn hub.now a.pass a.who }
-    requires b { IsOwn hub.now b.pass b.who }
+    requires own { IsOwn hub.now caller.pass caller.who }
     requires channel { 0 < length (shape_of hub.now) }
     ensures main { IsOf hub.now main.new }
 {
-    let tally = a.tally.and(b.tally);
-    let (a, of_a) = waits_after(hub, a);
-    let (b, of_b) = waits_after(hub, b);
-    let by_a = end_and_settle(hub, main, a);
-    let by_b = end_and_settle(hub, main, b);
-    Side {
+    let Caller {
+        mut pass,
+        who,
+        offers: _,
         tally,
-        waits: of_a.and(of_b),
-        endings: by_a.and(by_b),
-    }
+    } = caller;
+    let waits = look_at_all(hub, &mut pass, who);
+    end_one(hub, main, pass, who);
+    [tally, waits, settle_all(hub, main, who)]
+}
+
+/// The same of two that both offer, or both receive.
+fn both(a: [Tally; 3], b: [Tally; 3]) -> [Tally; 3] {
+    [a[0].and(b[0]), a[1].and(b[1]), a[2].and(b[2])]
 }
 
 /// Of those who offered and those who received: how many calls there were, how many of their waits were resolved, how many stood, how many
 /// were settled; and the sum of all elements that were received.
-fn told_of(senders: Side, receivers: Side) -> ([[u32; 2]; 4], u32) {
+fn told_of(senders: [Tally; 3], receivers: [Tally; 3]) -> ([[u32; 2]; 4], u32) {
+    let (sent, got) = (senders[0], receivers[0]);
     (
         [
             [
-                senders.tally.met.wrapping_add(senders.tally.waits),
-                receivers.tally.met.wrapping_add(receivers.tally.waits),
+                sent.met.wrapping_add(sent.waits),
+                got.met.wrapping_add(got.waits),
             ],
-            [senders.waits.resolved, receivers.waits.resolved],
-            [senders.waits.standing, receivers.waits.standing],
-            [senders.endings.sent, receivers.endings.handed],
+            [senders[1].met, receivers[1].met],
+            [senders[1].waits, receivers[1].waits],
+            [senders[2].waits, receivers[2].met],
         ],
-        receivers
-            .tally
-            .received
-            .wrapping_add(receivers.endings.received),
+        got.received.wrapping_add(receivers[2].received),
     )
 }
 
 /// The same where nothing is lost: as many offered as received, so that nobody is left on either side, and each of the elements 0 to 1,999
 /// was received once.
-fn told_of_all(senders: Side, receivers: Side) -> ([[u32; 2]; 4], u32) {
-    let met = [receivers.tally.met, senders.tally.met];
-    ([[2000, 2000], met, [0, 0], met], 1999000)
+fn told_of_all(senders: [Tally; 3], receivers: [Tally; 3]) -> ([[u32; 2]; 4], u32) {
+    let met = [receivers[0].met, senders[0].met];
+    ([[2000; 2], met, [0; 2], met], 1999000)
 }
 
 #[test]
@@ -477,9 +386,9 @@ fn four_threads_lose_no_call_and_no_element(rt: HostRuntime) -> Result<(), Fail>
     let c = caller_of(&hub, third, 3, None);
     let d = caller_of(&hub, fourth, 4, None);
     let ((a, b), (c, d)) = by_four(&rt, &hub, a, b, c, d);
-    let senders = side_of(&hub, &mut main, a, b);
-    let receivers = side_of(&hub, &mut main, c, d);
+    let senders = both(end(&hub, &mut main, a), end(&hub, &mut main, b));
+    let receivers = both(end(&hub, &mut main, c), end(&hub, &mut main, d));
     let found = told_of(senders, receivers);
-    assert_eq!(rt; found, told_of_all(senders, receivers));
+    compare(&rt, &found, &told_of_all(senders, receivers));
     Ok(())
 }

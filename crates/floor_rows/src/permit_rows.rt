@@ -1,5 +1,6 @@
 //! Calls of three coroutines on one permit, after one of them filled the semaphore, worked out by hand; and who holds a permit at once.
 
+use crate::compare::compare;
 use co_base::{Memory, Tag, WaitId};
 use floor_tests::permit_calls::{Call, right_on_list, right_on_passes, tally_of_four};
 use permits::{Acquired, GivenBack, Permits, Released, TryAcquired};
@@ -59,7 +60,7 @@ fn first_other(
 #[test]
 fn calls_on_a_permit_are_answered_as_their_tables_say(rt: HostRuntime) -> Result<(), Fail> {
     let other = first_other(rt.alloc(), &TABLES)?;
-    assert_eq!(rt; other, None);
+    compare(&rt, &other, &None);
     Ok(())
 }
 
@@ -67,6 +68,6 @@ fn calls_on_a_permit_are_answered_as_their_tables_say(rt: HostRuntime) -> Result
 fn at_most_two_of_four_threads_hold_a_permit_at_once(rt: HostRuntime) -> Result<(), Fail> {
     let (tally, free) = tally_of_four(&rt, &Permits { c: 0, n: 2 }, 10000, 4, true)?;
     let acquired = tally.held.saturating_add(tally.given_up);
-    assert_eq!(rt; (tally.wrong, acquired, free), (0, 40000, true));
+    compare(&rt, &(tally.wrong, acquired, free), &(0, 40000, true));
     Ok(())
 }

@@ -9,6 +9,7 @@ ghost use Rattle.cell_calls.specs.HubFloors.{hub_floor};
 ghost use Rattle.floor_rows.specs.Known.{Knows, nothing};
 ghost use Rattle.floor_rows.specs.Callers.{IsCaller};
 
+use crate::compare::compare;
 use crate::known::Known;
 use crate::known_calls::{Call, Then, answers, nothing};
 use cell_calls::Desk;
@@ -446,6 +447,6 @@ fn first_other(alloc: Global, tables: &[Table]) -> Result<Option<(usize, [usize;
 #[test]
 fn calls_on_a_channel_are_answered_as_their_tables_say(rt: HostRuntime) -> Result<(), Fail> {
     let other = first_other(rt.alloc(), &TABLES)?;
-    assert_eq!(rt; other, None);
+    compare(&rt, &other, &None);
     Ok(())
 }

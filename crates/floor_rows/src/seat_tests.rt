@@ -9,6 +9,7 @@ ghost use Rattle.job_words.specs.Forests.{seen_by as jobs_seen_by, IsOwn as IsOw
 ghost use Rattle.job_words.specs.Passes.{floor_seen};
 ghost use Rattle.word_seats.specs.Names.{IsNamedHub, IsNamedForest};
 
+use crate::compare::compare;
 use cell_words::{Hub, Pass};
 use channel_model::{Got, Kind, Offered};
 use co_base::Memory;
@@ -21,23 +22,27 @@ use std::test::Fail;
 use std::thread::{Threads, join};
 use word_seats::{ForestSeat, HubSeat, TableName};
 
-/// Tag 1 offers.
-fn offer<C: SharedChannels + Drop>(mut seat: C) -> Result<(C, Offered), Memory>
+/// Tag 1 offers, if there is memory.
+fn offer<C: SharedChannels + Drop>(mut seat: C) -> (C, Option<Offered>)
     requires can { MayCall 1 0 (C.view seat) }
     requires kind { is_signal (kind_at (C.view seat).shape 0) ≡ false }
 {
-    seat.room(1)?;
-    let offered = seat.offer(1, 0, 5);
-    Ok((seat, offered))
+    let offered = match seat.room(1) {
+        Ok(()) => Some(seat.offer(1, 0, 5)),
+        Err(_) => None,
+    };
+    (seat, offered)
 }
 
-/// Tag 2 receives.
-fn receive<C: SharedChannels + Drop>(mut seat: C) -> Result<(C, Got), Memory>
+/// Tag 2 receives, if there is memory.
+fn receive<C: SharedChannels + Drop>(mut seat: C) -> (C, Option<Got>)
     requires can { MayCall 2 0 (C.view seat) }
 {
-    seat.room(1)?;
-    let got = seat.receive(2, 0);
-    Ok((seat, got))
+    let got = match seat.room(1) {
+        Ok(()) => Some(seat.receive(2, 0)),
+        Err(_) => None,
+    };
+    (seat, got)
 }
 
 /// Both, by a thread each. The receiver hears of the sender, and both end into the first seat.
@@ -46,18 +51,20 @@ fn transfer<C: SharedChannels + Drop + Send, R: Threads + Wait + Sync>(
     main: &mut C,
     sender: C,
     receiver: C,
-) -> Result<(Offered, Got), Memory>
+) -> (Option<Offered>, Option<Got>)
     requires sender { MayCall 1 0 (C.view sender) }
     requires receiver { MayCall 2 0 (C.view receiver) }
     requires kind { is_signal (kind_at (C.view sender).shape 0) ≡ false }
 {
-    let (sent, received) = join(rt, || offer(sender), || receive(receiver));
-    let (mut sender, offered) = sent?;
-    let (mut receiver, got) = received?;
+    let ((mut sender, offered), (mut receiver, got)) = join(
+        rt,
+        || offer(sender),
+        || receive(receiver),
+    );
     receiver.meet(&mut sender);
     main.end(sender);
     main.end(receiver);
-    Ok((offered, got))
+    (offered, got)
 }
 
 /// A transfer over two seats of the hub that `N` names.
@@ -65,7 +72,7 @@ fn on_a_hub<N: TableName + Send + Sync, R: Threads + Wait + Sync>(
     rt: &R,
     hub: &Hub,
     pass: Pass,
-) -> Result<(Offered, Got), Memory>
+) -> (Option<Offered>, Option<Got>)
     requires named { IsNamedHub N.table N.table_key hub.now }
     requires own { IsOwn hub.now pass 0 }
     requires gives { GivesTags (0 ∷ []) pass }
@@ -83,10 +90,10 @@ fn on_a_hub<N: TableName + Send + Sync, R: Threads + Wait + Sync>(
 }
 
 /// Whether the element went from tag 1 to tag 2, whoever came first.
-fn is_one_transfer(offered: Offered, got: Got) -> bool {
-    match (offered, got) {
-        (Offered::Handed(0, 2), Got::Waiting(0)) => true,
-        (Offered::Held(0), Got::Taken(0, 5, Some(1))) => true,
+fn is_one_transfer(offered: Option<Offered>, got: Option<Got>) -> bool {
+    match got {
+        Some(Got::Waiting(0)) => offered == Some(Offered::Handed(0, 2)),
+        Some(Got::Taken(0, 5, Some(1))) => offered == Some(Offered::Held(0)),
         _ => false,
     }
 }
@@ -95,8 +102,8 @@ fn is_one_transfer(offered: Offered, got: Got) -> bool {
 fn what_one_sends_the_other_receives(rt: HostRuntime) -> Result<(), Fail> {
     let kinds = [(Kind::Rendezvous, 1u32)];
     let (hub, pass) = Hub::new(rt.alloc(), &kinds)?;
-    let (offered, got) = on_a_hub::<Brand, _>(&rt, &hub, pass)?;
-    assert!(rt; is_one_transfer(offered, got));
+    let (offered, got) = on_a_hub::<Brand, _>(&rt, &hub, pass);
+    compare(&rt, &is_one_transfer(offered, got), &true);
     Ok(())
 }
 
@@ -143,14 +150,13 @@ fn on_a_forest<N: TableName>(forest: &Forest, pass: JobPass) -> Result<Option<Jo
 fn what_one_attaches_the_other_sees(rt: HostRuntime) -> Result<(), Fail> {
     let (forest, pass) = Forest::new(rt.alloc(), 2, 0)?;
     let child = on_a_forest::<Brand>(&forest, pass)?;
-    assert!(rt;
-        matches!(
-            child,
-            Some(JobView {
-                state: JobState::Active,
-                ..
-            })
-        )
+    let active = matches!(
+        child,
+        Some(JobView {
+            state: JobState::Active,
+            ..
+        })
     );
+    compare(&rt, &active, &true);
     Ok(())
 }

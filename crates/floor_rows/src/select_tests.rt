@@ -7,6 +7,7 @@ ghost use Rattle.cell_words.specs.Hubs.{shape_of, IsOf, IsOwn as IsOwnPass, Give
 ghost use Rattle.one_thread_floor.specs.ListFloors.{floor_of};
 ghost use Rattle.floor_tests.specs.Meetings.{may_meet, two_channels};
 
+use crate::compare::compare;
 use cell_calls::Desk;
 use cell_words::{Hub, Pass};
 use channel_calls::Caller;
@@ -106,8 +107,11 @@ fn select_over<F: ChannelFloor, B: NoteBook, W: Wakes>(
     }
 }
 
-/// The same with a book of its own.
-pub(crate) fn select_on<F: ChannelFloor>(floor: &mut F, book: &mut Notes) -> Result<Found, Memory>
+/// The same on a floor, noted in this book.
+pub(crate) fn select_on<F: ChannelFloor, B: NoteBook>(
+    floor: &mut F,
+    book: &mut B,
+) -> Result<Found, Memory>
     requires caller { (F.view floor.old).callers 1 ≡ true }
     requires channels { 2 ≤ length (F.view floor.old).shape }
 {
@@ -131,16 +135,6 @@ fn new_floor(alloc: Global) -> Result<ListFloor, Memory>
     ListFloor::new(alloc, &KINDS)
 }
 
-/// A select on such a floor, on which the other makes these calls, each before one call of the select; and what the select noted.
-fn select_between(alloc: Global, calls: [OtherCall; 5]) -> Result<(Found, Notes), Memory> {
-    let floor = new_floor(alloc)?;
-    let calls = calls_on_two(alloc, calls)?;
-    let mut between = Between::new(floor, calls)?;
-    let mut book = Notes::new(alloc);
-    let found = select_on(&mut between, &mut book)?;
-    Ok((found, book))
-}
-
 /// A hub of two channels.
 pub(crate) fn new_hub(alloc: Global) -> Result<(Hub, Pass), Memory>
     ensures shape { IfOk result (λ r. shape_of r.0 ≡ two_channels) }
@@ -148,37 +142,6 @@ pub(crate) fn new_hub(alloc: Global) -> Result<(Hub, Pass), Memory>
     ensures gives { IfOk result (λ r. GivesTags (0 ∷ []) r.1) }
 {
     Hub::new(alloc, &KINDS)
-}
-
-/// A select by one pass, while the other calls by another.
-fn select_on_hub(
-    hub: &Hub,
-    user: &mut Pass,
-    others: &mut Pass,
-    calls: VecDeque<OtherCall>,
-    book: &mut Notes,
-) -> Result<Found, Memory>
-    requires shape { shape_of hub.now ≡ two_channels }
-    requires user { IsOwnPass hub.now user.old 1 }
-    requires others { IsOwnPass hub.now others.old 2 }
-    requires may { list_all (may_meet two_channels) calls.items ≡ true }
-    requires few { length calls.items ≤ 5 }
-{
-    let floor = Desk { hub, pass: user };
-    let others = Desk { hub, pass: others };
-    let mut beside = Beside::new(floor, others, calls)?;
-    select_on(&mut beside, book)
-}
-
-/// The same over a hub, where the two have a pass each.
-fn select_beside(alloc: Global, calls: [OtherCall; 5]) -> Result<(Found, Notes), Memory> {
-    let (hub, mut main) = new_hub(alloc)?;
-    let mut user = hub.split(&mut main, USER);
-    let mut others = hub.split(&mut main, OTHER);
-    let calls = calls_on_two(alloc, calls)?;
-    let mut book = Notes::new(alloc);
-    let found = select_on_hub(&hub, &mut user, &mut others, calls, &mut book)?;
-    Ok((found, book))
 }
 
 /// The wait of the first clause.
@@ -377,23 +340,52 @@ const ROWS: [Row; 5] = [
     row!(BOTH_OFFERED, received_first!(7), &TOO_LATE),
 ];
 
-/// Whether a select comes to what its row says, and whether it notes these notes: on lists, and over a hub.
-fn is_right(alloc: Global, row: Row) -> Result<[bool; 4], Memory> {
-    let (on_lists, on_lists_noted) = select_between(alloc, row.calls)?;
-    let (over_hub, over_hub_noted) = select_beside(alloc, row.calls)?;
-    Ok([
-        on_lists == row.found,
-        has_noted(&on_lists_noted, row.noted),
-        over_hub == row.found,
-        has_noted(&over_hub_noted, row.noted),
-    ])
+/// Whether a select comes to what its row says, and whether it notes these notes: on lists, where the other makes each of its calls before
+/// one of the select.
+fn is_right_on_lists(alloc: Global, row: Row) -> Result<[bool; 2], Memory> {
+    let calls = calls_on_two(alloc, row.calls)?;
+    let floor = new_floor(alloc)?;
+    let mut between = Between::new(floor, calls)?;
+    let mut book = Notes::new(alloc);
+    let found = select_on(&mut between, &mut book)?;
+    Ok([found == row.found, has_noted(&book, row.noted)])
 }
 
-/// The number of the first row that does not hold, and what of it holds.
-fn first_other(alloc: Global, rows: &[Row]) -> Result<Option<(usize, [bool; 4])>, Memory> {
+/// The same over a hub, where the two have a pass each, and the other makes each of its calls after a note of the select.
+fn is_right_on_hub(
+    hub: &Hub,
+    user: &mut Pass,
+    others: &mut Pass,
+    alloc: Global,
+    row: Row,
+) -> Result<[bool; 2], Memory>
+    requires shape { shape_of hub.now ≡ two_channels }
+    requires user { IsOwnPass hub.now user.old 1 }
+    requires others { IsOwnPass hub.now others.old 2 }
+{
+    let calls = calls_on_two(alloc, row.calls)?;
+    let mut floor = Desk { hub, pass: user };
+    let mut book = Beside::new(alloc, Desk { hub, pass: others }, calls)?;
+    let found = select_on(&mut floor, &mut book)?;
+    Ok([found == row.found, has_noted(book.notes(), row.noted)])
+}
+
+/// The same on a hub of its own.
+fn is_right_over_hub(alloc: Global, row: Row) -> Result<[bool; 2], Memory> {
+    let (hub, mut main) = new_hub(alloc)?;
+    let mut user = hub.split(&mut main, USER);
+    let mut others = hub.split(&mut main, OTHER);
+    is_right_on_hub(&hub, &mut user, &mut others, alloc, row)
+}
+
+/// The number of the first row that does not hold, and what of it holds: on lists, and over a hub.
+fn first_other(alloc: Global, rows: &[Row]) -> Result<Option<(usize, [[bool; 2]; 2])>, Memory> {
     for (number, row) in rows.iter().enumerate() {
-        let right = is_right(alloc, *row)?;
-        if right != [true; 4] {
+        let right = [
+            is_right_on_lists(alloc, *row)?,
+            is_right_over_hub(alloc, *row)?,
+        ];
+        if right != [[true; 2]; 2] {
             return Ok(Some((number, right)));
         }
     }
@@ -405,6 +397,6 @@ fn selects_between_calls_of_another_come_to_what_their_rows_say(
     rt: HostRuntime,
 ) -> Result<(), Fail> {
     let other = first_other(rt.alloc(), &ROWS)?;
-    assert_eq!(rt; other, None);
+    compare(&rt, &other, &None);
     Ok(())
 }

@@ -7,6 +7,7 @@ ghost use Rattle.channel_model.specs.Needs.{JoinsWait};
 ghost use Rattle.word_rules.specs.Cells.{spot};
 ghost use Rattle.cell_words.specs.Hubs.{shape_of, seen_by, IsOwn};
 
+use crate::compare::compare;
 use crate::on_passes::{settle, withdraw};
 use cell_words::{Hub, Pass};
 use channel_model::{Kind, Offered, Registered, Settled, Withdrawn};
@@ -88,7 +89,7 @@ fn a_select_at_two_channels_is_taken_at_one(rt: HostRuntime) -> Result<(), Fail>
         [Offered::Handed(0, 1), Offered::Held(1)],
         Some(Settled::Value(2, 7)),
     );
-    assert_eq!(rt; (first, second, offered, settled), wanted);
+    compare(&rt, &(first, second, offered, settled), &wanted);
     Ok(())
 }
 
@@ -107,7 +108,7 @@ fn a_select_that_was_withdrawn_stands_nowhere(rt: HostRuntime) -> Result<(), Fai
         Some(Withdrawn::Done(1)),
         [Offered::Put(1), Offered::Put(1)],
     );
-    assert_eq!(rt; (second, withdrawn, offered), wanted);
+    compare(&rt, &(second, withdrawn, offered), &wanted);
     Ok(())
 }
 
@@ -138,6 +139,6 @@ fn a_clause_is_not_placed_where_its_select_was_resolved(rt: HostRuntime) -> Resu
             Registered::Partner(1),
         ],
     );
-    assert_eq!(rt; (first, offered, second, registered), wanted);
+    compare(&rt, &(first, offered, second, registered), &wanted);
     Ok(())
 }

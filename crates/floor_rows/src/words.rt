@@ -2,6 +2,7 @@
 //!
 //! - `counted_rows`, `counted_at_once`: counted cells, call by call, and by four threads.
 //! - `gate_rows`: a gate, call by call.
+//! - `guarded_rows`: a value that one at a time has, call by call, and by two threads.
 //! - `latest_at_once`: a channel that does not keep its latest, call by call, and by two threads.
 
 #[cfg(test)]
@@ -10,5 +11,7 @@ mod counted_at_once;
 mod counted_rows;
 #[cfg(test)]
 mod gate_rows;
+#[cfg(test)]
+mod guarded_rows;
 #[cfg(test)]
 mod latest_at_once;

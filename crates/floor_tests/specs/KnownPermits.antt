@@ -44,10 +44,13 @@ pub record Adds (who : ℕ) (old new : Floor) : Type 0 where
 abbrev pub used : ℕ → Known
 used held = record { held = held; wait = None }
 
--- the call began this wait, or none
-abbrev pub after_acquire : ℕ → Acquired → Known
-after_acquire held (acquired.Waits w) = record { held = held; wait = Some w }
-after_acquire held other = used held
+-- the wait that an acquire began, if it did
+abbrev pub wait_of : Acquired → Option WaitId
+wait_of (acquired.Waits w) = Some w
+wait_of acquired.Held = None
+wait_of acquired.Cancelled = None
+wait_of (acquired.Closed v) = None
+wait_of acquired.Spent = None
 
 -- ---- four with a pass each, with the tags 1 to 4, on the permits of the first channel
 

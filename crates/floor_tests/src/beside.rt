@@ -1,42 +1,65 @@
-//! A floor of channels beside which another coroutine calls by a floor of its own.
+//! A book of notes, between which another coroutine calls.
 
-ghost use Rattle.std.specs.Prelude.{◌≡◌, ◌<◌, ◌^◌, true, length, IfOk};
+ghost use Rattle.std.specs.Prelude.{◌≡◌, ◌<◌, ◌^◌, true, length};
 ghost use Rattle.std.specs.List.{list_all};
 ghost use Rattle.std.proofs.Props.{props};
+ghost use Rattle.note_book.specs.Books.{notes_of, spare_of};
 ghost use Rattle.floor_tests.specs.Meetings.{other, may_meet, HasCalls};
 
-use crate::other_calls::OtherCall;
+use crate::other_calls::{OtherCall, make_next};
 use channel_model::ChannelFloor;
 use co_base::Memory;
+use note_book::{Item, NoteBook, Notes};
+use std::alloc::Global;
 use std::collections::VecDeque;
 
-/// A floor that is lent to one user, and one of the other, on the same channels: right before each call of the user, but for that for
-/// room, the other makes the next of its own.
+/// The notes of a user that has a floor of its own on the channels of the other's floor: right after each note, and so before the next call
+/// of the user, the other makes the next of its calls.
 #[derive(Drop)]
-pub struct Beside<F: ChannelFloor + Drop, O: ChannelFloor + Drop> {
-    pub(crate) floor: F,
-    pub(crate) others: O,
-    pub(crate) calls: VecDeque<OtherCall>,
+pub struct Beside<O: ChannelFloor + Drop> {
+    notes: Notes,
+    others: O,
+    calls: VecDeque<OtherCall>,
     ghost has: { HasCalls (O.view others) calls.items } by { Prim.hlevel props },
 }
 
-impl<F: ChannelFloor + Drop, O: ChannelFloor + Drop> Beside<F, O> {
-    /// The floors of the user and of the other, who makes these calls, the first one before the user's first.
-    pub fn new(floor: F, others: O, calls: VecDeque<OtherCall>) -> Result<Beside<F, O>, Memory>
+impl<O: ChannelFloor + Drop> Beside<O> {
+    /// A book with nothing in it, and the floor of the other, who makes the first of these calls now.
+    pub fn new(alloc: Global, others: O, calls: VecDeque<OtherCall>) -> Result<Beside<O>, Memory>
         requires caller { (O.view others).callers other ≡ true }
         requires may { list_all (may_meet (O.view others).shape) calls.items ≡ true }
         requires few { length calls.items < 2 ^ 32 }
-        ensures floor { IfOk result (λ b. b.floor ≡ floor) }
-        ensures calls { IfOk result (λ b. b.calls.items ≡ calls.items) }
     {
         let mut others = others;
+        let mut calls = calls;
         if let Err(memory) = others.room(calls.len() as u32) {
             return Err(memory);
         }
+        make_next(&mut others, &mut calls);
         Ok(Beside {
-            floor,
+            notes: Notes::new(alloc),
             others,
             calls,
         })
+    }
+
+    /// What was noted.
+    pub fn notes(&self) -> &Notes {
+        &self.notes
+    }
+}
+
+impl<O: ChannelFloor + Drop> NoteBook for Beside<O> {
+    ghost items = { λ b. notes_of b.notes };
+
+    ghost spare = { λ b. spare_of b.notes };
+
+    fn room(&mut self, n: u32) -> Result<(), Memory> {
+        self.notes.room(n)
+    }
+
+    fn note(&mut self, item: Item) {
+        self.notes.note(item);
+        make_next(&mut self.others, &mut self.calls);
     }
 }

@@ -2,14 +2,13 @@
 //!
 //! - `other_calls`: the coroutine that calls in between, and its calls.
 //! - `between`, `between_calls`: a floor on which it makes one before each call of the user.
-//! - `beside`, `beside_calls`: the same where it has a floor of its own on the same channels.
+//! - `beside`: notes of the user, after each of which it makes one by a floor of its own on the same channels.
 //! - `no_wakes`: wakes of which nothing comes.
 //! - `permit_calls`: calls of several coroutines on the permits of a semaphore.
 //! - `forest_shares`: calls on a forest of Jobs, and its tags shared out among passes.
 #![tactic(auto)]
 
 mod beside;
-mod beside_calls;
 mod between;
 mod between_calls;
 pub mod forest_shares;

@@ -8,7 +8,5 @@
 #![tactic(auto)]
 
 mod guard;
-#[cfg(test)]
-mod tests;
 
 pub use guard::{GuardSeat, Guarded, Kept};

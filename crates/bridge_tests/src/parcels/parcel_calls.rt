@@ -1,5 +1,5 @@
 //! Calls on channels of owned values whose conditions follow from the calls before.
-ghost use Rattle.std.specs.Prelude.{◌≡◌, ◌<◌, ◌≤◌, IfOk, IfSome};
+ghost use Rattle.std.specs.Prelude.{◌≡◌, ◌<◌, ◌≤◌, IfOk};
 ghost use Rattle.channel_model.specs.declared.floor.WaitState.TheVariants as state;
 ghost use Rattle.channel_model.specs.Answers.{IsReady, IsSeenVoided};
 ghost use Rattle.parcel_channel.specs.Hubs.{IsOf, floor_by};
@@ -8,7 +8,7 @@ ghost use Rattle.bridge_tests.specs.ParcelPasses.{IsMain, IsOther, Keeps};
 
 use channel_model::{Kind, WaitState, Withdrawn};
 use co_base::{Memory, Tag, Value, WaitId};
-use parcel_channel::{ParcelGot, ParcelHub, ParcelPass, ParcelSent};
+use parcel_channel::{ParcelHub, ParcelPass};
 use std::alloc::Global;
 
 /// The passes of the tags 0, 1 and 2.
@@ -55,16 +55,6 @@ pub(crate) fn rest_of<T>(
     hub.into_rest(main)
 }
 
-/// Whether nothing lies in any of these slots.
-pub(crate) fn are_empty<T>(slots: &[Option<T>]) -> bool {
-    for slot in slots {
-        if slot.is_some() {
-            return false;
-        }
-    }
-    true
-}
-
 /// Takes the own wait back, unless it was resolved before.
 pub(crate) fn take_back<T>(hub: &ParcelHub<T>, pass: &mut ParcelPass<T>, wait: WaitId) -> Withdrawn
     requires of { IsOf hub.now pass.old }
@@ -88,38 +78,8 @@ pub(crate) fn look_at<T>(hub: &ParcelHub<T>, pass: &mut ParcelPass<T>, wait: Wai
     hub.look(pass, wait)
 }
 
-/// Sends where nobody receives yet. Answers its wait.
-pub(crate) fn send_first(
-    hub: &ParcelHub<Value>,
-    pass: &mut ParcelPass<Value>,
-    value: Value,
-) -> Option<WaitId>
-    requires of { IsOf hub.now pass.old }
-    ensures kept { Keeps hub.now pass.old pass.new }
-    ensures wait { IfSome result (λ w. w.channel ≡ 0) }
-    ensures holds { IfSome result (λ w. HoldsWait pass.new.tag w (floor_by hub.now pass.new)) }
-{
-    match hub.send(pass, value) {
-        ParcelSent::Waits(wait, _) => Some(wait),
-        _ => None,
-    }
-}
-
-/// Receives where nobody sends yet. Answers its wait.
-pub(crate) fn receive_first(hub: &ParcelHub<Value>, pass: &mut ParcelPass<Value>) -> Option<WaitId>
-    requires of { IsOf hub.now pass.old }
-    ensures kept { Keeps hub.now pass.old pass.new }
-    ensures wait { IfSome result (λ w. w.channel ≡ 0) }
-    ensures holds { IfSome result (λ w. HoldsWait pass.new.tag w (floor_by hub.now pass.new)) }
-{
-    match hub.receive(pass) {
-        ParcelGot::Waits(wait) => Some(wait),
-        _ => None,
-    }
-}
-
 /// Closes the channel with 0 and cancels it. Answers whether each of them was the first.
-pub(crate) fn cancel(hub: &ParcelHub<Value>, pass: &mut ParcelPass<Value>) -> (bool, bool)
+pub(crate) fn cancel<T>(hub: &ParcelHub<T>, pass: &mut ParcelPass<T>) -> (bool, bool)
     requires of { IsOf hub.now pass.old }
     ensures kept { Keeps hub.now pass.old pass.new }
     ensures voided { IsSeenVoided 0 (floor_by hub.now pass.new) }
@@ -144,10 +104,10 @@ pub(crate) fn close_and_wake(
 }
 
 /// Removes the first value of a cancelled channel.
-pub(crate) fn drain_one(
-    hub: &ParcelHub<Value>,
-    pass: &mut ParcelPass<Value>,
-) -> Option<(Option<Value>, Option<Tag>)>
+pub(crate) fn drain_one<T>(
+    hub: &ParcelHub<T>,
+    pass: &mut ParcelPass<T>,
+) -> Option<(Option<T>, Option<Tag>)>
     requires of { IsOf hub.now pass.old }
     requires voided { IsSeenVoided 0 (floor_by hub.now pass.old) }
     ensures kept { Keeps hub.now pass.old pass.new }

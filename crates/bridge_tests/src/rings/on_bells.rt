@@ -1,14 +1,17 @@
-//! The checks of rings whose threads sleep. All have the same bells, and each a ring of its own.
+//! All checks of rings. Those whose threads sleep have the same bells, and each has a ring of its own.
 ghost use Rattle.std.specs.Prelude.{◌≤◌, ◌^◌};
 ghost use Rattle.bridge_tests.specs.RingPasses.{AreThree};
 
-use crate::rings::explored::nobody_is_forgotten;
 use crate::rings::ring_calls::{Three, new_ring};
+use crate::rings::ring_lines::{
+    BOXES_ARRIVE_ONCE_AND_IN_ORDER, THREADS_THAT_SLEEP_MOVE_EACH_NUMBER_ONCE,
+    TWO_SENDERS_HAND_OVER_ALL_THEY_HAVE, all_come, nobody_is_forgotten,
+};
 use crate::rings::selects::{Check as Select, went as selects};
-use crate::rings::{handings, who_sleeps};
+use crate::rings::{handings, ring_rows, who_sleeps};
 use ring_bridge::Bells;
 use ring_channel::Ring;
-use std::alloc::AllocGlobal;
+use std::alloc::{AllocGlobal, Global};
 use std::random::RandomSource;
 use std::sync::Wait;
 use std::test::Fail;
@@ -17,9 +20,7 @@ use std::thread::Threads;
 /// What is checked: the functions of these names.
 #[derive(Clone, Copy)]
 enum Check {
-    TwoSendersHandOverAllTheyHave,
     AValueThatNobodyClaimedIsLeft,
-    ThreadsThatSleepMoveEachNumberOnce,
     ASinkAndAStreamTakeTurns,
     AStreamSleepsUntilItIsNamed,
 }
@@ -35,9 +36,7 @@ fn went_on<R: Threads + Wait + RandomSource + Sync + AllocGlobal>(
     requires three { AreThree ring.now three.main three.one three.two }
 {
     match check {
-        Check::TwoSendersHandOverAllTheyHave => handings::hand_over_all(rt, ring, bells, three),
         Check::AValueThatNobodyClaimedIsLeft => handings::is_left(rt, ring, bells, three),
-        Check::ThreadsThatSleepMoveEachNumberOnce => who_sleeps::move_each(rt, ring, bells, three),
         Check::ASinkAndAStreamTakeTurns => who_sleeps::take_turns(rt, ring, bells, three),
         Check::AStreamSleepsUntilItIsNamed => who_sleeps::sleeps_until_named(
             rt, ring, bells, three,
@@ -61,28 +60,45 @@ fn went<R: Threads + Wait + RandomSource + Sync + AllocGlobal>(
     }
 }
 
+/// Whether each check by threads, by a stream and a sink, and by a select went as its name says.
+fn found<R: Threads + Wait + RandomSource + Sync + AllocGlobal>(
+    rt: &R,
+    alloc: Global,
+    bells: &Bells,
+) -> [bool; 12] {
+    let (hand, sleep) = (
+        TWO_SENDERS_HAND_OVER_ALL_THEY_HAVE,
+        THREADS_THAT_SLEEP_MOVE_EACH_NUMBER_ONCE,
+    );
+    [
+        all_come(rt, alloc, bells, 1, 1_000, false, hand),
+        went(rt, bells, 1, 100, Check::AValueThatNobodyClaimedIsLeft),
+        all_come(rt, alloc, bells, 2, 3_000, true, sleep),
+        all_come(
+            rt,
+            alloc,
+            bells,
+            2,
+            2_000,
+            true,
+            BOXES_ARRIVE_ONCE_AND_IN_ORDER,
+        ),
+        went(rt, bells, 2, 100, Check::ASinkAndAStreamTakeTurns),
+        went(rt, bells, 2, 100, Check::AStreamSleepsUntilItIsNamed),
+        selects(rt, bells, 2, Select::TheFirstClauseThatMayGoOnIsChosen),
+        selects(rt, bells, 1, Select::ASendThatHasNoRoomIsNotChosen),
+        selects(rt, bells, 1, Select::AThreadThatSelectsReceivesAllOfBoth),
+        nobody_is_forgotten(rt, alloc, bells, 1),
+        nobody_is_forgotten(rt, alloc, bells, 2),
+        nobody_is_forgotten(rt, alloc, bells, 3),
+    ]
+}
+
 #[test]
 fn each_check_goes_as_its_name_says(rt: HostRuntime) -> Result<(), Fail> {
     let bells = Bells::new(rt.alloc())?;
-    let found = [
-        went(&rt, &bells, 1, 1_000, Check::TwoSendersHandOverAllTheyHave),
-        went(&rt, &bells, 1, 100, Check::AValueThatNobodyClaimedIsLeft),
-        went(
-            &rt,
-            &bells,
-            2,
-            3_000,
-            Check::ThreadsThatSleepMoveEachNumberOnce,
-        ),
-        went(&rt, &bells, 2, 100, Check::ASinkAndAStreamTakeTurns),
-        went(&rt, &bells, 2, 100, Check::AStreamSleepsUntilItIsNamed),
-        selects(&rt, &bells, 2, Select::TheFirstClauseThatMayGoOnIsChosen),
-        selects(&rt, &bells, 1, Select::ASendThatHasNoRoomIsNotChosen),
-        selects(&rt, &bells, 1, Select::AThreadThatSelectsReceivesAllOfBoth),
-        nobody_is_forgotten(&rt, rt.alloc(), &bells, 1),
-        nobody_is_forgotten(&rt, rt.alloc(), &bells, 2),
-        nobody_is_forgotten(&rt, rt.alloc(), &bells, 3),
-    ];
-    assert_eq!(rt; found, [true; 11]);
+    let rows = ring_rows::found(rt.alloc());
+    let found = found(&rt, rt.alloc(), &bells);
+    assert_eq!(rt; (rows, found), ([true; 9], [true; 12]));
     Ok(())
 }

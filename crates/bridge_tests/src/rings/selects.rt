@@ -1,5 +1,7 @@
 //! A select over two rings: call by call, and by a thread that sleeps.
-ghost use Rattle.bridge_tests.specs.RingPasses.{AreThree, IsOther};
+ghost use Rattle.std.specs.Prelude.{◌≡◌};
+ghost use Rattle.ring_channel.specs.Passes.{tag_of};
+ghost use Rattle.bridge_tests.specs.RingPasses.{AreThree, IsMain, IsOther};
 
 use crate::rings::ring_calls::{Three, new_ring};
 use ring_bridge::{Bells, Chosen, InOrder, ReceiveClause, SendClause, receive, select, send};
@@ -17,6 +19,48 @@ pub(crate) enum Check {
     TheFirstClauseThatMayGoOnIsChosen,
     ASendThatHasNoRoomIsNotChosen,
     AThreadThatSelectsReceivesAllOfBoth,
+}
+
+/// A select over receives of two rings.
+type Both<'a> = InOrder<ReceiveClause<'a, u32>, ReceiveClause<'a, u32>>;
+
+/// Selects. Answers which clause was chosen, and what it received.
+fn choose<R: Wait>(rt: &R, bells: &Bells, clause: &mut Both<'_>) -> (u32, Option<(u64, u32)>)
+    requires tag { (1 ≡ tag_of clause.old.first.pass) × (1 ≡ tag_of clause.old.second.pass) }
+    ensures tag { (1 ≡ tag_of clause.new.first.pass) × (1 ≡ tag_of clause.new.second.pass) }
+{
+    match select(rt, bells, clause, 1) {
+        Chosen::First(found) => (1, found),
+        Chosen::Second(found) => (2, found),
+    }
+}
+
+/// Whether 7 comes of the second, then 5 of the first, 8 of the second, and the end of the first.
+fn goes_by_turns<R: Wait>(
+    rt: &R,
+    bells: &Bells,
+    ring: &Ring<u32>,
+    main: &mut RingPass<u32>,
+    other: &Ring<u32>,
+    sender: &mut RingPass<u32>,
+    clause: &mut Both<'_>,
+) -> bool
+    requires main { IsMain ring.now main.old }
+    requires sender { IsMain other.now sender.old }
+    requires tag { (1 ≡ tag_of clause.old.first.pass) × (1 ≡ tag_of clause.old.second.pass) }
+{
+    other.try_send(sender, 7);
+    let seven = choose(rt, bells, clause) == (2, Some((0, 7)));
+    let named_nobody = matches!(
+        ring.send(main, 0, 5),
+        SendOutcome::Sent { wakes, .. } if wakes.receivers == Called::Nobody
+    );
+    other.try_send(sender, 8);
+    let five = choose(rt, bells, clause) == (1, Some((0, 5)));
+    let eight = choose(rt, bells, clause) == (2, Some((1, 8)));
+    ring.close(main);
+    let over = choose(rt, bells, clause) == (1, None);
+    seven & named_nobody & five & eight & over
 }
 
 /// The first clause that may go on is chosen.
@@ -41,23 +85,25 @@ fn first_is_chosen<R: Wait>(
         first: ReceiveClause::new(ring, one),
         second: ReceiveClause::new(other, another),
     };
-    other.try_send(&mut sender, 7);
-    let second = select(rt, bells, &mut clause, 1);
-    let named = matches!(
-        ring.send(&mut main, 0, 5),
-        SendOutcome::Sent { wakes, .. } if wakes.receivers == Called::Nobody
-    );
-    other.try_send(&mut sender, 8);
-    let first = select(rt, bells, &mut clause, 1);
-    let then = select(rt, bells, &mut clause, 1);
-    ring.close(&mut main);
-    let over = select(rt, bells, &mut clause, 1);
-    let at_first = matches!(second, Chosen::Second(Some((0, 7)))) && named;
-    let by_turns = matches!(
-        (first, then),
-        (Chosen::First(Some((0, 5))), Chosen::Second(Some((1, 8))))
-    );
-    at_first && by_turns && matches!(over, Chosen::First(None))
+    goes_by_turns(rt, bells, ring, &mut main, other, &mut sender, &mut clause)
+}
+
+/// Whether 7 comes of the second clause as long as 3 fills the ring of the first, which sends 4 then.
+fn sends_once_there_is_room<R: Wait>(
+    rt: &R,
+    bells: &Bells,
+    ring: &Ring<u32>,
+    main: &mut RingPass<u32>,
+    clause: &mut InOrder<SendClause<'_, u32>, ReceiveClause<'_, u32>>,
+) -> bool
+    requires main { IsMain ring.now main.old }
+    requires tag { (1 ≡ tag_of clause.old.first.pass) × (1 ≡ tag_of clause.old.second.pass) }
+{
+    let received = matches!(select(rt, bells, clause, 1), Chosen::Second(Some((0, 7))));
+    let taken = receive(rt, ring, bells, main, 0) == Some((0, 3));
+    let sent = matches!(select(rt, bells, clause, 1), Chosen::First(Ok(1)));
+    let then = receive(rt, ring, bells, main, 0) == Some((1, 4));
+    received & taken & sent & then
 }
 
 /// A send that has no room is not chosen.
@@ -84,14 +130,7 @@ fn no_room_is_not_chosen<R: Wait>(
         first: SendClause::new(ring, one, 4),
         second: ReceiveClause::new(other, another),
     };
-    let received = matches!(
-        select(rt, bells, &mut clause, 1),
-        Chosen::Second(Some((0, 7)))
-    );
-    let taken = matches!(receive(rt, ring, bells, &mut main, 0), Some((0, 3)));
-    let sent = matches!(select(rt, bells, &mut clause, 1), Chosen::First(Ok(1)));
-    let then = matches!(receive(rt, ring, bells, &mut main, 0), Some((1, 4)));
-    received && taken && sent && then
+    sends_once_there_is_room(rt, bells, ring, &mut main, &mut clause)
 }
 
 /// Sends the numbers from 0 on, each on one ring and then on the other.
@@ -99,16 +138,16 @@ fn send_on_both<R: Wait>(
     rt: &R,
     bells: &Bells,
     ring: &Ring<u32>,
-    mut pass: RingPass<u32>,
+    pass: &mut RingPass<u32>,
     other: &Ring<u32>,
-    mut another: RingPass<u32>,
+    another: &mut RingPass<u32>,
 )
-    requires pass { IsOther 2 ring.now pass }
-    requires another { IsOther 2 other.now another }
+    requires pass { IsOther 2 ring.now pass.old }
+    requires another { IsOther 2 other.now another.old }
 {
     for number in 0..NUMBERS {
-        let _ = send(rt, other, bells, &mut another, 2, number);
-        let _ = send(rt, ring, bells, &mut pass, 2, number);
+        let _ = send(rt, other, bells, another, 2, number);
+        let _ = send(rt, ring, bells, pass, 2, number);
     }
 }
 
@@ -130,13 +169,9 @@ fn receive_of_both<R: Wait>(
         second: ReceiveClause::new(other, another),
     };
     for _ in 0..2 * NUMBERS {
-        match select(rt, bells, &mut clause, 1) {
-            Chosen::First(Some((_, number))) if number == due[0] => {
-                due[0] = due[0].wrapping_add(1);
-            }
-            Chosen::Second(Some((_, number))) if number == due[1] => {
-                due[1] = due[1].wrapping_add(1);
-            }
+        match choose(rt, bells, &mut clause) {
+            (1, Some((_, number))) if number == due[0] => due[0] = due[0].wrapping_add(1),
+            (2, Some((_, number))) if number == due[1] => due[1] = due[1].wrapping_add(1),
             _ => {}
         }
     }
@@ -149,10 +184,10 @@ fn by_two<R: Threads + Wait + Sync>(
     bells: &Bells,
     ring: &Ring<u32>,
     one: RingPass<u32>,
-    two: RingPass<u32>,
+    mut two: RingPass<u32>,
     other: &Ring<u32>,
     another_one: RingPass<u32>,
-    another_two: RingPass<u32>,
+    mut another_two: RingPass<u32>,
 ) -> [u32; 2]
     requires one { IsOther 1 ring.now one }
     requires two { IsOther 2 ring.now two }
@@ -161,7 +196,7 @@ fn by_two<R: Threads + Wait + Sync>(
 {
     let (_, due) = join(
         rt,
-        || send_on_both(rt, bells, ring, two, other, another_two),
+        || send_on_both(rt, bells, ring, &mut two, other, &mut another_two),
         ||
             requires { IsOther 1 ring.now one × IsOther 1 other.now another_one }
         { receive_of_both(rt, bells, ring, one, other, another_one) },

@@ -1,4 +1,4 @@
-//! Senders and receivers that sleep while they have to wait: by threads, and by a stream and a sink that are polled as tasks.
+//! A stream and a sink that are polled as tasks, which sleep while they have to wait.
 ghost use Rattle.bridge_tests.specs.RingPasses.{AreThree, IsOther};
 
 use crate::rings::ring_calls::Three;
@@ -9,74 +9,10 @@ use futures::task::Poll;
 use futures::test::MockTask;
 use futures::{SinkExt, Stream, StreamExt};
 use ring_bridge::{Bells, RingSink, RingSinkFault, RingStream, receive, send};
-use ring_channel::{Ring, RingGot, RingPass};
+use ring_channel::{Ring, RingPass};
 use std::alloc::AllocGlobal;
 use std::random::RandomSource;
 use std::sync::Wait;
-use std::thread::{Threads, join};
-
-/// How many numbers are sent.
-const NUMBERS: u32 = 3_000;
-
-/// Sends the numbers from 0 on, and closes the ring. Answers how many were sent.
-fn send_numbers<R: Wait>(rt: &R, ring: &Ring<u32>, bells: &Bells, mut pass: RingPass<u32>) -> u32
-    requires of { IsOther 1 ring.now pass }
-{
-    let mut sent = 0u32;
-    for number in 0..NUMBERS {
-        let done = send(rt, ring, bells, &mut pass, 1, number).is_ok();
-        sent = sent.wrapping_add(u32::from(done));
-    }
-    let closing = ring.close_and_call(&mut pass);
-    bells.wake_all(closing);
-    sent
-}
-
-/// Receives until the ring is over. Answers how many came with the number that was due.
-fn receive_numbers<R: Wait>(rt: &R, ring: &Ring<u32>, bells: &Bells, mut pass: RingPass<u32>) -> u32
-    requires of { IsOther 2 ring.now pass }
-{
-    let mut due = 0u32;
-    for _ in 0..=NUMBERS {
-        if let Some((_place, number)) = receive(rt, ring, bells, &mut pass, 2) {
-            due = due.wrapping_add(u32::from(number == due));
-        }
-    }
-    due
-}
-
-/// Both at once.
-fn by_two<R: Threads + Wait + Sync>(
-    rt: &R,
-    ring: &Ring<u32>,
-    bells: &Bells,
-    sender: RingPass<u32>,
-    receiver: RingPass<u32>,
-) -> (u32, u32)
-    requires sender { IsOther 1 ring.now sender }
-    requires receiver { IsOther 2 ring.now receiver }
-{
-    join(
-        rt,
-        || send_numbers(rt, ring, bells, sender),
-        || receive_numbers(rt, ring, bells, receiver),
-    )
-}
-
-/// Threads that sleep move each number once, and nothing is left.
-pub(crate) fn move_each<R: Threads + Wait + Sync>(
-    rt: &R,
-    ring: &Ring<u32>,
-    bells: &Bells,
-    three: Three<u32>,
-) -> bool
-    requires three { AreThree ring.now three.main three.one three.two }
-{
-    let Three { mut main, one, two } = three;
-    let (sent, received) = by_two(rt, ring, bells, one, two);
-    let over = matches!(ring.try_receive(&mut main), RingGot::Closed);
-    sent == NUMBERS && received == NUMBERS && over
-}
 
 /// Whether these are a hundred numbers from 0 on.
 fn are_numbers(items: &[u32]) -> bool {
@@ -88,6 +24,14 @@ fn are_numbers(items: &[u32]) -> bool {
         due = due.wrapping_add(1);
     }
     due == 100
+}
+
+/// Whether memory was there for them, and they are these.
+fn are_all<E: Drop>(items: Result<Vec<u32>, E>) -> bool {
+    match items {
+        Ok(items) => are_numbers(items.as_slice()),
+        Err(_) => false,
+    }
 }
 
 /// A sink and a stream take turns: a hundred numbers go through two slots.
@@ -105,11 +49,8 @@ pub(crate) fn take_turns<R: Wait + RandomSource + AllocGlobal>(
     let receives = RingStream::new(ring, bells, two, 2)
         .take(100)
         .collect(rt.alloc());
-    let Ok((sent, received)) = block_on(rt, join_tasks(sends, receives)) else {
-        return false;
-    };
-    match received {
-        Ok(items) => sent.is_ok() && are_numbers(items.as_slice()),
+    match block_on(rt, join_tasks(sends, receives)) {
+        Ok((sent, received)) => sent.is_ok() & are_all(received),
         Err(_) => false,
     }
 }
@@ -129,7 +70,26 @@ fn polls_to(task: &MockTask, stream: &mut RingStream<'_, u32>, number: u32, woke
     found == number && task.is_woken() == woken
 }
 
-/// A stream sleeps until it is named; one that is dropped waits no more.
+/// A stream sleeps until it is named, and receives 7.
+fn is_named<R: Wait>(
+    rt: &R,
+    task: &MockTask,
+    ring: &Ring<u32>,
+    bells: &Bells,
+    stream: &mut RingStream<'_, u32>,
+    two: &mut RingPass<u32>,
+) -> bool
+    requires two { IsOther 2 ring.now two.old }
+    ensures two { IsOther 2 ring.now two.new }
+{
+    let sleeps = polls_to(task, stream, 0, false);
+    let sent = send(rt, ring, bells, two, 2, 7).is_ok();
+    let woken = task.is_woken();
+    let came = polled(task, stream) == 7;
+    sleeps & sent & woken & came & polls_to(task, stream, 0, false)
+}
+
+/// The same; and one that is dropped waits no more.
 fn sleeps_with<R: Wait>(
     rt: &R,
     task: &MockTask,
@@ -145,16 +105,10 @@ fn sleeps_with<R: Wait>(
         mut two,
     } = three;
     let mut stream = RingStream::new(ring, bells, one, 1);
-    let sleeps = polls_to(task, &mut stream, 0, false);
-    let first = send(rt, ring, bells, &mut two, 2, 7).is_ok();
-    let woken = task.is_woken();
-    let came = polled(task, &mut stream);
-    let waits = polls_to(task, &mut stream, 0, false);
+    let named = is_named(rt, task, ring, bells, &mut stream, &mut two);
     drop(stream);
-    let second = send(rt, ring, bells, &mut two, 2, 8).is_ok();
-    let kept = receive(rt, ring, bells, &mut main, 0);
-    let named = [sleeps, first, woken, came == 7, waits, second] == [true; 6];
-    named & matches!(kept, Some((1, 8)))
+    let sent = send(rt, ring, bells, &mut two, 2, 8).is_ok();
+    named & sent & (receive(rt, ring, bells, &mut main, 0) == Some((1, 8)))
 }
 
 /// The same with a task of its own.

@@ -1,9 +1,10 @@
 //! Four threads on the same counted cells.
-ghost use Rattle.std.specs.Prelude.{◌<◌, OnOk, IfOk};
+ghost use Rattle.std.specs.Prelude.{◌≡◌, [], ◌∷◌, ◌++◌, ◌⊎◌};
 ghost use Rattle.counted_cells.specs.Passes.{IsOf};
 ghost use Rattle.floor_rows.specs.CellsDrawn.{AllCame, Waited};
 
-use co_base::{Memory, Place, Value};
+use crate::compare::compare;
+use co_base::{Place, Value};
 use counted_cells::{Counted, CountedGot, CountedPass, CountedSend, CountedState};
 use std::alloc::Global;
 use std::sync::Wait;
@@ -13,7 +14,7 @@ use std::thread::{Threads, join};
 /// How many sends, and how many receives, each thread makes.
 const EACH: u32 = 25000;
 
-/// What one thread has come to.
+/// What one thread does, and has come to. Where memory runs out a call is not counted, and the count of all is wrong.
 #[derive(Drop)]
 struct Share {
     pass: CountedPass,
@@ -27,6 +28,26 @@ struct Share {
     values: Vec<Value>,
 }
 
+fn share_of(counted: &Counted, pass: CountedPass, alloc: Global) -> Share
+    requires of { IsOf counted.now pass }
+    ensures { Waited counted.now result.pass result.sends.items result.receives.items }
+{
+    Share {
+        pass,
+        sends: Vec::new(alloc),
+        receives: Vec::new(alloc),
+        paired: 0,
+        values: Vec::new(alloc),
+    }
+}
+
+/// Adds a number, if there is memory for it.
+fn add(numbers: &mut Vec<u32>, number: u32)
+    ensures { (numbers.new.items ≡ numbers.old.items ++ number ∷ []) ⊎ (numbers.new.items ≡ numbers.old.items) }
+{
+    let _ = numbers.push(number);
+}
+
 /// Sends a value, and answers whether its receiver was there.
 fn send_one(
     counted: &Counted,
@@ -34,21 +55,21 @@ fn send_one(
     waits: &mut Vec<Place>,
     others: &[Place],
     value: Value,
-) -> Result<bool, Memory>
+) -> bool
     requires of { IsOf counted.now pass.old }
     requires came { AllCame counted.now pass.old waits.old.items }
     requires others { AllCame counted.now pass.old others.now }
     ensures of { IsOf counted.now pass.new }
-    ensures came { OnOk result (AllCame counted.now pass.new waits.new.items) }
+    ensures came { AllCame counted.now pass.new waits.new.items }
     ensures others { AllCame counted.now pass.new others.now }
 {
     match counted.send(pass, value) {
         CountedSend::Waits(place) => {
-            waits.push(place)?;
-            Ok(false)
+            add(waits, place);
+            false
         }
-        CountedSend::Paired(_) => Ok(true),
-        CountedSend::Broken(_) | CountedSend::Spent => Ok(false),
+        CountedSend::Paired(_) => true,
+        CountedSend::Broken(_) | CountedSend::Spent => false,
     }
 }
 
@@ -58,96 +79,89 @@ fn receive_one(
     pass: &mut CountedPass,
     waits: &mut Vec<Place>,
     others: &[Place],
-) -> Result<Option<Value>, Memory>
+) -> Option<Value>
     requires of { IsOf counted.now pass.old }
     requires came { AllCame counted.now pass.old waits.old.items }
     requires others { AllCame counted.now pass.old others.now }
     ensures of { IsOf counted.now pass.new }
-    ensures came { OnOk result (AllCame counted.now pass.new waits.new.items) }
+    ensures came { AllCame counted.now pass.new waits.new.items }
     ensures others { AllCame counted.now pass.new others.now }
 {
     match counted.receive(pass) {
         CountedGot::Waits(place) => {
-            waits.push(place)?;
-            Ok(None)
+            add(waits, place);
+            None
         }
-        CountedGot::Value(_, value) => Ok(Some(value)),
-        CountedGot::Broken(_) | CountedGot::Spent => Ok(None),
+        CountedGot::Value(_, value) => Some(value),
+        CountedGot::Broken(_) | CountedGot::Spent => None,
+    }
+}
+
+/// A send of a value, and a receive.
+fn turn(counted: &Counted, share: &mut Share, value: Value)
+    requires { Waited counted.now share.old.pass share.old.sends.items share.old.receives.items }
+    ensures { Waited counted.now share.new.pass share.new.sends.items share.new.receives.items }
+{
+    if send_one(
+        counted,
+        &mut share.pass,
+        &mut share.sends,
+        &share.receives,
+        value,
+    ) {
+        share.paired = share.paired.wrapping_add(1);
+    }
+    let received = receive_one(counted, &mut share.pass, &mut share.receives, &share.sends);
+    if let Some(value) = received {
+        add(&mut share.values, value);
     }
 }
 
 /// So many sends, of the values from this one on, and as many receives, by turns.
-fn work(counted: &Counted, pass: CountedPass, alloc: Global, first: Value) -> Result<Share, Memory>
-    requires of { IsOf counted.now pass }
-    ensures { IfOk result (λ share. Waited counted.now share.pass share.sends.items share.receives.items) }
+fn work(counted: &Counted, share: Share, first: Value) -> Share
+    requires { Waited counted.now share.pass share.sends.items share.receives.items }
+    ensures { Waited counted.now result.pass result.sends.items result.receives.items }
 {
-    let mut pass = pass;
-    let mut sends = Vec::new(alloc);
-    let mut receives = Vec::new(alloc);
-    let mut values = Vec::new(alloc);
-    let mut paired = 0usize;
-    for turn in 0..EACH {
-        if send_one(
-            counted,
-            &mut pass,
-            &mut sends,
-            &receives,
-            first.wrapping_add(turn),
-        )? {
-            paired = paired.wrapping_add(1);
-        }
-        if let Some(value) = receive_one(counted, &mut pass, &mut receives, &sends)? {
-            values.push(value)?;
-        }
+    let mut share = share;
+    for i in 0..EACH {
+        turn(counted, &mut share, first.wrapping_add(i));
     }
-    Ok(Share {
-        pass,
-        sends,
-        receives,
-        paired,
-        values,
-    })
+    share
 }
 
-/// The values of the calls that waited in these cells and met their partner.
+/// How many of the calls that waited in these cells met their partner. Their values are counted.
 fn look_at_all(
     counted: &Counted,
     pass: &mut CountedPass,
-    alloc: Global,
     waits: &[Place],
     others: &[Place],
-) -> Result<Vec<Value>, Memory>
+    counts: &mut [u32],
+) -> usize
     requires of { IsOf counted.now pass.old }
     requires came { AllCame counted.now pass.old waits.now }
     requires others { AllCame counted.now pass.old others.now }
     ensures of { IsOf counted.now pass.new }
     ensures others { AllCame counted.now pass.new others.now }
 {
-    let mut values = Vec::new(alloc);
+    let mut met = 0usize;
     for place in waits {
         if let CountedState::Paired(value) = counted.look(pass, *place) {
-            values.push(value)?;
+            count(counts, value);
+            met = met.wrapping_add(1);
         }
     }
-    Ok(values)
+    met
 }
 
-/// Counts each value.
-fn count_values(counts: &mut [u32], values: &[Value]) {
-    for value in values {
-        if let Some(count) = counts.get_mut(*value as usize) {
-            *count = count.wrapping_add(1);
-        }
+/// Counts a value.
+fn count(counts: &mut [u32], value: Value) {
+    if let Some(count) = counts.get_mut(value as usize) {
+        *count = count.wrapping_add(1);
     }
 }
 
 /// How many sends of a thread met a receiver. The values that its receives have are counted.
-fn count_share(
-    counted: &Counted,
-    share: Share,
-    alloc: Global,
-    counts: &mut [u32],
-) -> Result<usize, Memory>
+fn count_share(counted: &Counted, share: Share, counts: &mut [u32]) -> usize
     requires { Waited counted.now share.pass share.sends.items share.receives.items }
 {
     let Share {
@@ -157,91 +171,83 @@ fn count_share(
         paired,
         values,
     } = share;
-    let received = look_at_all(counted, &mut pass, alloc, &receives, &sends)?;
-    let sent = look_at_all(counted, &mut pass, alloc, &sends, &[])?;
-    count_values(counts, &values);
-    count_values(counts, &received);
-    Ok(paired.wrapping_add(sent.len()))
+    for value in &values {
+        count(counts, *value);
+    }
+    look_at_all(counted, &mut pass, &receives, &sends, counts);
+    let met = look_at_all(counted, &mut pass, &sends, &[], &mut []);
+    paired.wrapping_add(met)
 }
 
-/// The work of two passes, by a thread each. The second sends the values behind those of the first.
+/// The work of two, by a thread each. The second sends the values behind those of the first.
 fn by_two<R: Threads + Wait + Sync>(
     rt: &R,
     counted: &Counted,
-    a: CountedPass,
-    b: CountedPass,
-    alloc: Global,
+    a: Share,
+    b: Share,
     first: Value,
-) -> (Result<Share, Memory>, Result<Share, Memory>)
-    requires a { IsOf counted.now a }
-    requires b { IsOf counted.now b }
-    ensures a { IfOk result.0 (λ share. Waited counted.now share.pass share.sends.items share.receives.items) }
-    ensures b { IfOk result.1 (λ share. Waited counted.now share.pass share.sends.items share.receives.items) }
+) -> (Share, Share)
+    requires a { Waited counted.now a.pass a.sends.items a.receives.items }
+    requires b { Waited counted.now b.pass b.sends.items b.receives.items }
+    ensures a { Waited counted.now result.0.pass result.0.sends.items result.0.receives.items }
+    ensures b { Waited counted.now result.1.pass result.1.sends.items result.1.receives.items }
 {
     join(
         rt,
-        || work(counted, a, alloc, first),
-        || work(counted, b, alloc, first.wrapping_add(EACH)),
+        || work(counted, a, first),
+        || work(counted, b, first.wrapping_add(EACH)),
     )
 }
 
-/// How many sends of two threads met a receiver. The values that their receives have are counted.
-fn count_two(
-    counted: &Counted,
-    shares: (Result<Share, Memory>, Result<Share, Memory>),
-    alloc: Global,
-    counts: &mut [u32],
-) -> Result<usize, Memory>
-    requires a { IfOk shares.0 (λ share. Waited counted.now share.pass share.sends.items share.receives.items) }
-    requires b { IfOk shares.1 (λ share. Waited counted.now share.pass share.sends.items share.receives.items) }
-{
-    let (a, b) = shares;
-    let a = count_share(counted, a?, alloc, counts)?;
-    let b = count_share(counted, b?, alloc, counts)?;
-    Ok(a.wrapping_add(b))
-}
-
-/// The work of four passes, by a thread each.
+/// The work of four, by a thread each: how many sends met a receiver. The values that receives have are counted.
 fn by_four<R: Threads + Wait + Sync>(
     rt: &R,
     counted: &Counted,
-    passes: (CountedPass, CountedPass, CountedPass, CountedPass),
-    alloc: Global,
+    first_two: (Share, Share),
+    last_two: (Share, Share),
     counts: &mut [u32],
-) -> Result<usize, Memory>
-    requires a { IsOf counted.now passes.0 }
-    requires b { IsOf counted.now passes.1 }
-    requires c { IsOf counted.now passes.2 }
-    requires d { IsOf counted.now passes.3 }
+) -> usize
+    requires a { Waited counted.now first_two.0.pass first_two.0.sends.items first_two.0.receives.items }
+    requires b { Waited counted.now first_two.1.pass first_two.1.sends.items first_two.1.receives.items }
+    requires c { Waited counted.now last_two.0.pass last_two.0.sends.items last_two.0.receives.items }
+    requires d { Waited counted.now last_two.1.pass last_two.1.sends.items last_two.1.receives.items }
 {
-    let (a, b, c, d) = passes;
-    let (left, right) = join(
+    let (a, b) = first_two;
+    let (c, d) = last_two;
+    let ((a, b), (c, d)) = join(
         rt,
-        || -> (Result<Share, Memory>, Result<Share, Memory>)
-            requires a { IsOf counted.now a }
-            requires b { IsOf counted.now b }
-        { by_two(rt, counted, a, b, alloc, 0) },
-        || -> (Result<Share, Memory>, Result<Share, Memory>)
-            requires c { IsOf counted.now c }
-            requires d { IsOf counted.now d }
-        { by_two(rt, counted, c, d, alloc, 2 * EACH) },
+        || -> (Share, Share)
+            requires a { Waited counted.now a.pass a.sends.items a.receives.items }
+            requires b { Waited counted.now b.pass b.sends.items b.receives.items }
+        { by_two(rt, counted, a, b, 0) },
+        || -> (Share, Share)
+            requires c { Waited counted.now c.pass c.sends.items c.receives.items }
+            requires d { Waited counted.now d.pass d.sends.items d.receives.items }
+        { by_two(rt, counted, c, d, 2 * EACH) },
     );
-    let left = count_two(counted, left, alloc, counts)?;
-    let right = count_two(counted, right, alloc, counts)?;
-    Ok(left.wrapping_add(right))
+    count_share(counted, a, counts)
+        .wrapping_add(count_share(counted, b, counts))
+        .wrapping_add(count_share(counted, c, counts))
+        .wrapping_add(count_share(counted, d, counts))
 }
 
 #[test]
 fn each_send_of_four_threads_meets_one_receive(rt: HostRuntime) -> Result<(), Fail> {
     let alloc = rt.alloc();
-    let (counted, mut first) = Counted::new(alloc, 4 * EACH)?;
-    let second = counted.split(&mut first);
-    let third = counted.split(&mut first);
-    let fourth = counted.split(&mut first);
     let mut counts = Vec::from_elem(alloc, 0u32, 4 * EACH as usize)?;
-    let passes = (first, second, third, fourth);
-    let met = by_four(&rt, &counted, passes, alloc, counts.as_mut_slice())?;
-    assert!(rt; met == 4 * EACH as usize);
-    assert!(rt; counts.iter().all(|count| *count == 1));
+    let (counted, mut first) = Counted::new(alloc, 4 * EACH)?;
+    let second = share_of(&counted, counted.split(&mut first), alloc);
+    let third = share_of(&counted, counted.split(&mut first), alloc);
+    let fourth = share_of(&counted, counted.split(&mut first), alloc);
+    let first = share_of(&counted, first, alloc);
+    let met = by_four(
+        &rt,
+        &counted,
+        (first, second),
+        (third, fourth),
+        counts.as_mut_slice(),
+    );
+    let each_once = counts.iter().all(|count| *count == 1);
+    compare(&rt, &(met, each_once), &(4 * EACH as usize, true));
     Ok(())
 }

@@ -1,50 +1,81 @@
 //! Two passes of counted cells, one call after the other.
 
-use counted_cells::{Counted, CountedGot, CountedSend, CountedState, GaveUp};
+ghost use Rattle.counted_cells.specs.Passes.{IsOf};
+
+use crate::compare::compare;
+use co_base::Place;
+use counted_cells::{Counted, CountedGot, CountedPass, CountedSend, CountedState, GaveUp};
 use std::test::Fail;
+
+/// The first pass receives and is met, the second sends and gives up: where they waited, and which calls answer so.
+fn met_and_given_up(
+    counted: &Counted,
+    first: &mut CountedPass,
+    second: &mut CountedPass,
+) -> Option<([Place; 2], [bool; 7])>
+    requires first { IsOf counted.now first.old }
+    requires second { IsOf counted.now second.old }
+    ensures first { IsOf counted.now first.new }
+    ensures second { IsOf counted.now second.new }
+{
+    let CountedGot::Waits(met) = counted.receive(first) else {
+        return None;
+    };
+    let paired = counted.send(second, 9) == CountedSend::Paired(0);
+    let seen = counted.look(first, met) == CountedState::Paired(9);
+    let CountedSend::Waits(left) = counted.send(second, 8) else {
+        return None;
+    };
+    let found = [
+        paired,
+        seen,
+        counted.give_up(second, left) == GaveUp::Done,
+        counted.look(second, left) == CountedState::Broken,
+        counted.receive(first) == CountedGot::Broken(1),
+        counted.receive(first) == CountedGot::Spent,
+        counted.send(second, 7) == CountedSend::Spent,
+    ];
+    Some(([met, left], found))
+}
 
 #[test]
 fn a_receiver_is_met_and_a_sender_gives_up(rt: HostRuntime) -> Result<(), Fail> {
     let (counted, mut first) = Counted::new(rt.alloc(), 2)?;
     let mut second = counted.split(&mut first);
-    let CountedGot::Waits(met) = counted.receive(&mut first) else {
-        panic!(rt; "nobody sends yet")
-    };
-    let paired = counted.send(&mut second, 9) == CountedSend::Paired(0);
-    let seen = counted.look(&mut first, met) == CountedState::Paired(9);
-    let CountedSend::Waits(left) = counted.send(&mut second, 8) else {
-        panic!(rt; "nobody receives yet")
-    };
-    let gave_up = counted.give_up(&mut second, left) == GaveUp::Done;
-    let broken = counted.look(&mut second, left) == CountedState::Broken;
-    let found_broken = counted.receive(&mut first) == CountedGot::Broken(1);
-    let none_to_receive = counted.receive(&mut first) == CountedGot::Spent;
-    let none_to_send = counted.send(&mut second, 7) == CountedSend::Spent;
+    let found = met_and_given_up(&counted, &mut first, &mut second);
     counted.end(&mut first, second);
-    let found = [
-        paired,
-        seen,
-        gave_up,
-        broken,
-        found_broken,
-        none_to_receive,
-        none_to_send,
-    ];
-    assert_eq!(rt; ([met, left], found), ([0, 1], [true; 7]));
+    compare(&rt, &found, &Some(([0, 1], [true; 7])));
     Ok(())
+}
+
+/// The first pass receives and is met, and gives up then: where it waited, and which calls answer so.
+fn met_before(
+    counted: &Counted,
+    first: &mut CountedPass,
+    second: &mut CountedPass,
+) -> Option<(Place, [bool; 3])>
+    requires first { IsOf counted.now first.old }
+    requires second { IsOf counted.now second.old }
+    ensures first { IsOf counted.now first.new }
+    ensures second { IsOf counted.now second.new }
+{
+    let CountedGot::Waits(place) = counted.receive(first) else {
+        return None;
+    };
+    let found = [
+        counted.send(second, 9) == CountedSend::Paired(0),
+        counted.give_up(first, place) == GaveUp::Late,
+        counted.look(first, place) == CountedState::Paired(9),
+    ];
+    Some((place, found))
 }
 
 #[test]
 fn a_receiver_that_was_met_gives_up_too_late(rt: HostRuntime) -> Result<(), Fail> {
     let (counted, mut first) = Counted::new(rt.alloc(), 2)?;
     let mut second = counted.split(&mut first);
-    let CountedGot::Waits(place) = counted.receive(&mut first) else {
-        panic!(rt; "nobody sends yet")
-    };
-    let paired = counted.send(&mut second, 9) == CountedSend::Paired(0);
-    let late = counted.give_up(&mut first, place) == GaveUp::Late;
-    let seen = counted.look(&mut first, place) == CountedState::Paired(9);
+    let found = met_before(&counted, &mut first, &mut second);
     counted.end(&mut first, second);
-    assert_eq!(rt; (place, [paired, late, seen]), (0, [true; 3]));
+    compare(&rt, &found, &Some((0, [true; 3])));
     Ok(())
 }

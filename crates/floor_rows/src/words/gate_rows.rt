@@ -3,6 +3,7 @@
 ghost use Rattle.std.specs.Prelude.{◌≡◌, ◌<◌, false};
 ghost use Rattle.gates.specs.Passes.{IsOf};
 
+use crate::compare::compare;
 use gates::{Acquired, Gate, GatePass, GaveUp, Released, TryAcquired, WaitState};
 use std::sync::Wait;
 use std::test::Fail;
@@ -53,30 +54,46 @@ fn gives_up(gate: &Gate, pass: &mut GatePass, wanted: GaveUp) -> bool
     gate.give_up(pass) == wanted
 }
 
+/// Which calls of four passes on two permits answer so.
+fn right_of_four(
+    gate: &Gate,
+    a: &mut GatePass,
+    b: &mut GatePass,
+    c: &mut GatePass,
+    d: &mut GatePass,
+) -> [bool; 15]
+    requires a { IsOf gate.now a.old }
+    requires b { IsOf gate.now b.old }
+    requires c { IsOf gate.now c.old }
+    requires d { IsOf gate.now d.old }
+{
+    [
+        acquires(gate, a, Acquired::Held),
+        gate.try_acquire(b) == TryAcquired::Held,
+        gate.try_acquire(c) == TryAcquired::Empty,
+        acquires(gate, c, Acquired::Waits),
+        acquires(gate, d, Acquired::Waits),
+        sees(gate, c, WaitState::Waits),
+        releases(gate, a, 3, Released::Granted(3)),
+        gives_up(gate, d, GaveUp::Late),
+        releases(gate, d, 3, Released::Granted(2)),
+        sees(gate, c, WaitState::Held),
+        acquires(gate, a, Acquired::Waits),
+        gives_up(gate, a, GaveUp::Done),
+        releases(gate, b, 0, Released::Free),
+        releases(gate, c, 0, Released::Free),
+        gate.try_acquire(d) == TryAcquired::Held,
+    ]
+}
+
 #[test]
 fn two_permits_go_round(rt: HostRuntime) -> Result<(), Fail> {
     let (gate, mut a) = Gate::new(rt.alloc(), 2)?;
     let mut b = gate.split(&mut a);
     let mut c = gate.split(&mut a);
     let mut d = gate.split(&mut a);
-    let found = [
-        acquires(&gate, &mut a, Acquired::Held),
-        gate.try_acquire(&mut b) == TryAcquired::Held,
-        gate.try_acquire(&mut c) == TryAcquired::Empty,
-        acquires(&gate, &mut c, Acquired::Waits),
-        acquires(&gate, &mut d, Acquired::Waits),
-        sees(&gate, &mut c, WaitState::Waits),
-        releases(&gate, &mut a, 3, Released::Granted(3)),
-        gives_up(&gate, &mut d, GaveUp::Late),
-        releases(&gate, &mut d, 3, Released::Granted(2)),
-        sees(&gate, &mut c, WaitState::Held),
-        acquires(&gate, &mut a, Acquired::Waits),
-        gives_up(&gate, &mut a, GaveUp::Done),
-        releases(&gate, &mut b, 0, Released::Free),
-        releases(&gate, &mut c, 0, Released::Free),
-        gate.try_acquire(&mut d) == TryAcquired::Held,
-    ];
-    assert_eq!(rt; found, [true; 15]);
+    let found = right_of_four(&gate, &mut a, &mut b, &mut c, &mut d);
+    compare(&rt, &found, &[true; 15]);
     Ok(())
 }
 
@@ -125,6 +142,6 @@ fn one_that_sleeps_wakes_with_the_permit(rt: HostRuntime) -> Result<(), Fail> {
         panic!(rt; "the permit is free")
     };
     let (released, held) = by_two(&rt, &gate, a, b);
-    assert!(rt; released != Released::Busy && held == 1);
+    compare(&rt, &(released == Released::Busy, held), &(false, 1));
     Ok(())
 }

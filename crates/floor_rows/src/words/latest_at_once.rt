@@ -7,6 +7,7 @@ ghost use Rattle.cell_words.specs.Hubs.{shape_of, IsOf, IsOwn, GivesTags};
 ghost use Rattle.cell_calls.specs.HubFloors.{hub_floor};
 ghost use Rattle.floor_rows.specs.LatestChannels.{one_latest};
 
+use crate::compare::compare;
 use cell_calls::{offer, spurn, try_receive};
 use cell_words::{Hub, Pass};
 use channel_model::{Kind, Offered, TriedGot};
@@ -154,35 +155,36 @@ fn both<R: Threads + Wait + Sync + AllocGlobal>(rt: &R) -> Result<(u64, u64, u64
 fn each_element_of_two_threads_is_received_or_spurned_or_held(rt: HostRuntime) -> Result<(), Fail> {
     for _ in 0..100 {
         let (spurned, received, held) = both(&rt)?;
-        assert_eq!(rt; spurned & received, 0);
-        assert_eq!(rt; (spurned | received) & held, 0);
-        assert_eq!(rt; spurned | received | held, ALL);
+        let twice = (spurned & received) | ((spurned | received) & held);
+        compare(&rt, &(twice, spurned | received | held), &(0, ALL));
     }
     Ok(())
 }
 
 /// What ten calls come to of one coroutine that sends 1, 2, 3 and 4, receives, sends 5 and 6, and receives thrice.
-fn ten_calls(alloc: Global) -> Result<[u64; 10], Memory> {
-    let (hub, mut main) = new_hub(alloc)?;
-    let pass = &mut main;
-    Ok([
-        send(&hub, pass, 0, 1),
-        send(&hub, pass, 0, 2),
-        send(&hub, pass, 0, 3),
-        send(&hub, pass, 0, 4),
-        take(&hub, pass, 0),
-        send(&hub, pass, 0, 5),
-        send(&hub, pass, 0, 6),
-        take(&hub, pass, 0),
-        take(&hub, pass, 0),
-        take(&hub, pass, 0),
-    ])
+fn ten_calls(hub: &Hub, pass: &mut Pass) -> [u64; 10]
+    requires shape { shape_of hub.now ≡ one_latest }
+    requires own { IsOwn hub.now pass.old 0 }
+{
+    [
+        send(hub, pass, 0, 1),
+        send(hub, pass, 0, 2),
+        send(hub, pass, 0, 3),
+        send(hub, pass, 0, 4),
+        take(hub, pass, 0),
+        send(hub, pass, 0, 5),
+        send(hub, pass, 0, 6),
+        take(hub, pass, 0),
+        take(hub, pass, 0),
+        take(hub, pass, 0),
+    ]
 }
 
 #[test]
 fn a_channel_that_keeps_two_spurns_what_comes_while_two_stand(rt: HostRuntime) -> Result<(), Fail> {
-    let wanted = [0, 0, 8, 16, 2, 0, 64, 4, 32, 0];
-    assert_eq!(rt; ten_calls(rt.alloc())?, wanted);
+    let (hub, mut main) = new_hub(rt.alloc())?;
+    let found = ten_calls(&hub, &mut main);
+    compare(&rt, &found, &[0, 0, 8, 16, 2, 0, 64, 4, 32, 0]);
     Ok(())
 }
 
@@ -203,18 +205,21 @@ fn received_between(hub: &Hub, pass: &mut Pass, value: Value) -> (u64, u64)
 }
 
 /// The same where two elements stand; and what stands then.
-fn third_of_three(alloc: Global) -> Result<[u64; 4], Memory> {
-    let (hub, mut main) = new_hub(alloc)?;
-    let pass = &mut main;
-    let first = send(&hub, pass, 0, 1) | send(&hub, pass, 0, 2);
-    let (taken, spurned) = received_between(&hub, pass, 3);
-    Ok([first, taken, spurned, take_some(&hub, pass, 0, 2)])
+fn third_of_three(hub: &Hub, pass: &mut Pass) -> [u64; 4]
+    requires shape { shape_of hub.now ≡ one_latest }
+    requires own { IsOwn hub.now pass.old 0 }
+{
+    let first = send(hub, pass, 0, 1) | send(hub, pass, 0, 2);
+    let (taken, spurned) = received_between(hub, pass, 3);
+    [first, taken, spurned, take_some(hub, pass, 0, 2)]
 }
 
 #[test]
 fn an_element_stays_where_another_was_received_before_it_was_looked_at(
     rt: HostRuntime,
 ) -> Result<(), Fail> {
-    assert_eq!(rt; third_of_three(rt.alloc())?, [0, 2, 0, 12]);
+    let (hub, mut main) = new_hub(rt.alloc())?;
+    let found = third_of_three(&hub, &mut main);
+    compare(&rt, &found, &[0, 2, 0, 12]);
     Ok(())
 }

@@ -1,8 +1,9 @@
 //! Calls on a floor of Jobs that look first whether they may be made.
-ghost use Rattle.std.specs.Prelude.{◌≡◌, true, is_some};
+ghost use Rattle.std.specs.Prelude.{◌≡◌, true, is_some, IfOk};
 ghost use Rattle.job_model.specs.Histories.{replay};
 ghost use Rattle.job_model.specs.Floors.{SameSetting, MayCall};
 ghost use Rattle.job_tree.specs.Rooms.{MayCancelAll};
+ghost use Rattle.floor_tests.specs.Shares.{IsReady, row_of};
 
 use crate::no_wakes::NoWakes;
 use co_base::{Memory, Row, Tag, Value};
@@ -81,7 +82,40 @@ pub fn is_attached<J: JobFloor>(jobs: &mut J, who: Tag, row: Row) -> bool
     }
 }
 
-/// Attaches a child, one of so many coroutines.
+/// The row that a call asks to be attached: for a look, which asks for none, the root.
+fn row_of(call: Call) -> Row
+    ensures { result ≡ row_of call }
+{
+    match call {
+        Call::Attach { parent, .. } => parent,
+        Call::Look { .. } => 0,
+        Call::Start { row }
+        | Call::EndBody { row, .. }
+        | Call::CancelOne { row }
+        | Call::CancelPass { row }
+        | Call::Finish { row }
+        | Call::FinishAndTell { row }
+        | Call::Link { row } => row,
+    }
+}
+
+/// Whether the row is attached; if it is, there is room for two entries.
+fn is_ready<J: JobFloor>(jobs: &mut J, who: Tag, row: Row) -> Result<bool, Memory>
+    requires caller { (J.view jobs.old).callers who ≡ true }
+    ensures anchor { J.anchor jobs.new ≡ J.anchor jobs.old }
+    ensures same { SameSetting (J.view jobs.old) (J.view jobs.new) }
+    ensures ready { IfOk result (λ r. r ≡ true → IsReady who row (J.view jobs.new)) }
+{
+    if !is_attached(jobs, who, row) {
+        return Ok(false);
+    }
+    match jobs.room(2) {
+        Ok(()) => Ok(true),
+        Err(memory) => Err(memory),
+    }
+}
+
+/// Attaches a child, one of so many coroutines; where a call may not be made, it is not, and so in the others.
 fn attach<J: JobFloor>(
     jobs: &mut J,
     coroutines: u16,
@@ -89,74 +123,59 @@ fn attach<J: JobFloor>(
     parent: Row,
     kind: JobKind,
     tag: Tag,
-) -> Result<Answer, Memory>
-    requires caller { (J.view jobs.old).callers who ≡ true }
+) -> Answer
+    requires ready { IsReady who parent (J.view jobs.old) }
     requires size { (J.view jobs.old).shape.coroutines ≡ coroutines }
     ensures anchor { J.anchor jobs.new ≡ J.anchor jobs.old }
     ensures same { SameSetting (J.view jobs.old) (J.view jobs.new) }
 {
-    if tag >= coroutines || (kind.scoped && tag != who) || !is_attached(jobs, who, parent) {
-        return Ok(Answer::NotMade);
+    if tag >= coroutines || (kind.scoped && tag != who) {
+        return Answer::NotMade;
     }
-    jobs.room(1)?;
-    Ok(Answer::Attached(jobs.attach(who, parent, kind, tag)))
-}
-
-fn start<J: JobFloor>(jobs: &mut J, who: Tag, row: Row) -> Result<Answer, Memory>
-    requires caller { (J.view jobs.old).callers who ≡ true }
-    ensures anchor { J.anchor jobs.new ≡ J.anchor jobs.old }
-    ensures same { SameSetting (J.view jobs.old) (J.view jobs.new) }
-{
-    if !is_attached(jobs, who, row) {
-        return Ok(Answer::NotMade);
-    }
-    jobs.room(1)?;
-    Ok(Answer::Started(jobs.start(who, row)))
+    Answer::Attached(jobs.attach(who, parent, kind, tag))
 }
 
 /// Ends the body of the caller's own Job.
-fn end_body<J: JobFloor>(jobs: &mut J, who: Tag, row: Row, value: Value) -> Result<Answer, Memory>
-    requires caller { (J.view jobs.old).callers who ≡ true }
+fn end_body<J: JobFloor>(jobs: &mut J, who: Tag, row: Row, value: Value) -> Answer
+    requires ready { IsReady who row (J.view jobs.old) }
     ensures anchor { J.anchor jobs.new ≡ J.anchor jobs.old }
     ensures same { SameSetting (J.view jobs.old) (J.view jobs.new) }
 {
-    if row == 0 || !is_attached(jobs, who, row) {
-        return Ok(Answer::NotMade);
+    if row == 0 {
+        return Answer::NotMade;
     }
     if jobs.link(who, row).tag != who {
-        return Ok(Answer::NotMade);
+        return Answer::NotMade;
     }
     let Some(job) = jobs.look(who, row) else {
-        return Ok(Answer::NotMade);
+        return Answer::NotMade;
     };
     if job.state.is_new() || job.body_ended {
-        return Ok(Answer::NotMade);
+        return Answer::NotMade;
     }
-    jobs.room(1)?;
-    Ok(Answer::Ended(jobs.end_body(who, row, value)))
+    Answer::Ended(jobs.end_body(who, row, value))
 }
 
 /// Cancels a Job alone, because its parent is Cancelling or Cancelled.
-fn cancel_one<J: JobFloor>(jobs: &mut J, who: Tag, row: Row) -> Result<Answer, Memory>
-    requires caller { (J.view jobs.old).callers who ≡ true }
+fn cancel_one<J: JobFloor>(jobs: &mut J, who: Tag, row: Row) -> Answer
+    requires ready { IsReady who row (J.view jobs.old) }
     ensures anchor { J.anchor jobs.new ≡ J.anchor jobs.old }
     ensures same { SameSetting (J.view jobs.old) (J.view jobs.new) }
 {
-    if row == 0 || !is_attached(jobs, who, row) {
-        return Ok(Answer::NotMade);
+    if row == 0 {
+        return Answer::NotMade;
     }
     let parent = jobs.link(who, row).parent;
     if parent >= jobs.rows() {
-        return Ok(Answer::NotMade);
+        return Answer::NotMade;
     }
     let Some(above) = jobs.look(who, parent) else {
-        return Ok(Answer::NotMade);
+        return Answer::NotMade;
     };
     if !above.state.is_cancelled() {
-        return Ok(Answer::NotMade);
+        return Answer::NotMade;
     }
-    jobs.room(1)?;
-    Ok(Answer::Cancelled(jobs.cancel_one(who, row, Reason::Parent)))
+    Answer::Cancelled(jobs.cancel_one(who, row, Reason::Parent))
 }
 
 fn cancel_pass<J: JobFloor>(
@@ -165,13 +184,10 @@ fn cancel_pass<J: JobFloor>(
     who: Tag,
     row: Row,
 ) -> Result<Answer, Memory>
-    requires caller { (J.view jobs.old).callers who ≡ true }
+    requires ready { IsReady who row (J.view jobs.old) }
     ensures anchor { J.anchor jobs.new ≡ J.anchor jobs.old }
     ensures same { SameSetting (J.view jobs.old) (J.view jobs.new) }
 {
-    if !is_attached(jobs, who, row) {
-        return Ok(Answer::NotMade);
-    }
     let rows = u32::from(jobs.rows());
     let mut book = Notes::new(alloc);
     book.room(rows)?;
@@ -195,31 +211,18 @@ fn pass_over<J: JobFloor, B: NoteBook>(jobs: &mut J, book: &mut B, who: Tag, row
     caller.cancel_pass(row, Reason::Request)
 }
 
-fn finish<J: JobFloor>(jobs: &mut J, who: Tag, row: Row) -> Result<Answer, Memory>
-    requires caller { (J.view jobs.old).callers who ≡ true }
-    ensures anchor { J.anchor jobs.new ≡ J.anchor jobs.old }
-    ensures same { SameSetting (J.view jobs.old) (J.view jobs.new) }
-{
-    if !is_attached(jobs, who, row) {
-        return Ok(Answer::NotMade);
-    }
-    jobs.room(1)?;
-    Ok(Answer::Finished(jobs.finish(who, row)))
-}
-
 /// Ends a Job, if it may end, and tells its parent.
-fn finish_and_tell<J: JobFloor>(jobs: &mut J, who: Tag, row: Row) -> Result<Answer, Memory>
-    requires caller { (J.view jobs.old).callers who ≡ true }
+fn finish_and_tell<J: JobFloor>(jobs: &mut J, who: Tag, row: Row) -> Answer
+    requires ready { IsReady who row (J.view jobs.old) }
     ensures anchor { J.anchor jobs.new ≡ J.anchor jobs.old }
     ensures same { SameSetting (J.view jobs.old) (J.view jobs.new) }
 {
-    if row == 0 || !is_attached(jobs, who, row) {
-        return Ok(Answer::NotMade);
+    if row == 0 {
+        return Answer::NotMade;
     }
-    jobs.room(2)?;
     match jobs.finish(who, row) {
-        Finished::Now(end) => Ok(Answer::FinishedAndTold(Finished::Now(end), jobs.gone(who, row))),
-        other => Ok(Answer::Finished(other)),
+        Finished::Now(end) => Answer::FinishedAndTold(Finished::Now(end), jobs.gone(who, row)),
+        other => Answer::Finished(other),
     }
 }
 
@@ -235,14 +238,40 @@ fn look<J: JobFloor>(jobs: &mut J, who: Tag, row: Row) -> Answer
 }
 
 fn link<J: JobFloor>(jobs: &mut J, who: Tag, row: Row) -> Answer
-    requires caller { (J.view jobs.old).callers who ≡ true }
+    requires ready { IsReady who row (J.view jobs.old) }
     ensures anchor { J.anchor jobs.new ≡ J.anchor jobs.old }
     ensures same { SameSetting (J.view jobs.old) (J.view jobs.new) }
 {
-    if row == 0 || !is_attached(jobs, who, row) {
+    if row == 0 {
         return Answer::NotMade;
     }
     Answer::Linked(jobs.link(who, row))
+}
+
+/// Makes the call, whose row is attached, if it may be made.
+fn make_ready<J: JobFloor>(
+    jobs: &mut J,
+    alloc: Global,
+    coroutines: u16,
+    who: Tag,
+    call: Call,
+) -> Result<Answer, Memory>
+    requires ready { IsReady who (row_of call) (J.view jobs.old) }
+    requires size { (J.view jobs.old).shape.coroutines ≡ coroutines }
+    ensures anchor { J.anchor jobs.new ≡ J.anchor jobs.old }
+    ensures same { SameSetting (J.view jobs.old) (J.view jobs.new) }
+{
+    match call {
+        Call::Attach { parent, kind, tag } => Ok(attach(jobs, coroutines, who, parent, kind, tag)),
+        Call::Start { row } => Ok(Answer::Started(jobs.start(who, row))),
+        Call::EndBody { row, value } => Ok(end_body(jobs, who, row, value)),
+        Call::CancelOne { row } => Ok(cancel_one(jobs, who, row)),
+        Call::CancelPass { row } => cancel_pass(jobs, alloc, who, row),
+        Call::Finish { row } => Ok(Answer::Finished(jobs.finish(who, row))),
+        Call::FinishAndTell { row } => Ok(finish_and_tell(jobs, who, row)),
+        Call::Look { row } => Ok(look(jobs, who, row)),
+        Call::Link { row } => Ok(link(jobs, who, row)),
+    }
 }
 
 /// Makes the call, if it may be made.
@@ -258,15 +287,9 @@ pub fn make<J: JobFloor>(
     ensures anchor { J.anchor jobs.new ≡ J.anchor jobs.old }
     ensures same { SameSetting (J.view jobs.old) (J.view jobs.new) }
 {
-    match call {
-        Call::Attach { parent, kind, tag } => attach(jobs, coroutines, who, parent, kind, tag),
-        Call::Start { row } => start(jobs, who, row),
-        Call::EndBody { row, value } => end_body(jobs, who, row, value),
-        Call::CancelOne { row } => cancel_one(jobs, who, row),
-        Call::CancelPass { row } => cancel_pass(jobs, alloc, who, row),
-        Call::Finish { row } => finish(jobs, who, row),
-        Call::FinishAndTell { row } => finish_and_tell(jobs, who, row),
-        Call::Look { row } => Ok(look(jobs, who, row)),
-        Call::Link { row } => Ok(link(jobs, who, row)),
+    match is_ready(jobs, who, row_of(call)) {
+        Ok(true) => make_ready(jobs, alloc, coroutines, who, call),
+        Ok(false) => Ok(Answer::NotMade),
+        Err(memory) => Err(memory),
     }
 }

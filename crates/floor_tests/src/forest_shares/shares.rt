@@ -7,7 +7,7 @@ ghost use Rattle.floor_tests.specs.Shares.{OwnsAll, IsShare, GivesFrom};
 
 use crate::forest_shares::calls::{Answer, Call};
 use crate::forest_shares::on_passes::{cancel_root, make_by, split_off};
-use co_base::Tag;
+use co_base::{Memory, Row, Tag};
 use job_model::JobKind;
 use job_words::{Forest, JobPass};
 use std::alloc::Global;
@@ -73,6 +73,31 @@ pub fn share_of(forest: &Forest, main: &mut JobPass, from: Tag, to: Tag) -> Shar
     }
 }
 
+/// The call that works on one tag.
+fn call_of(work: Work, tag: Tag) -> Call {
+    match work {
+        Work::CancelRoot => Call::Look { row: tag },
+        Work::AttachBelow => attach(tag / 2, PLAIN, tag),
+        Work::Attach => attach(0, PLAIN, tag),
+        Work::EnterScopes => attach(0, SCOPE, tag),
+        Work::EndBody => Call::EndBody { row: tag, value: 1 },
+        Work::Finish => Call::FinishAndTell { row: tag },
+    }
+}
+
+fn attach(parent: Row, kind: JobKind, tag: Tag) -> Call {
+    Call::Attach { parent, kind, tag }
+}
+
+/// Whether a call came to what it is made for.
+fn is_done(answer: Result<Answer, Memory>) -> bool {
+    match answer {
+        Ok(Answer::Attached(attached)) => attached.is_ok(),
+        Ok(Answer::Ended(_)) | Ok(Answer::FinishedAndTold(_, _)) => true,
+        _ => false,
+    }
+}
+
 /// The call of one tag, and whether it came to what it is made for.
 fn work_on(
     forest: &Forest,
@@ -87,60 +112,30 @@ fn work_on(
     ensures own { IsOwn forest.now pass.new tag }
     ensures same { SameSetting (floor_seen (seen_by pass.old)) (floor_seen (seen_by pass.new)) }
 {
-    let call = match work {
-        Work::CancelRoot => Call::Look { row: tag },
-        Work::AttachBelow => Call::Attach {
-            parent: tag / 2,
-            kind: PLAIN,
-            tag,
-        },
-        Work::Attach => Call::Attach {
-            parent: 0,
-            kind: PLAIN,
-            tag,
-        },
-        Work::EnterScopes => Call::Attach {
-            parent: 0,
-            kind: SCOPE,
-            tag,
-        },
-        Work::EndBody => Call::EndBody { row: tag, value: 1 },
-        Work::Finish => Call::FinishAndTell { row: tag },
-    };
-    match make_by(forest, coroutines, pass, alloc, tag, call) {
-        Ok(Answer::Attached(Ok(_))) | Ok(Answer::Ended(_)) | Ok(Answer::FinishedAndTold(_, _)) => {
-            true
-        }
-        _ => false,
-    }
+    is_done(make_by(forest, coroutines, pass, alloc, tag, call_of(work, tag)))
 }
 
-/// The work on each tag of the share.
-fn work_through(forest: &Forest, coroutines: u16, alloc: Global, share: Share, work: Work) -> Share
+/// The work on each tag of a share: how many calls came to what they are made for.
+fn work_through(
+    forest: &Forest,
+    coroutines: u16,
+    pass: &mut JobPass,
+    alloc: Global,
+    from: Tag,
+    to: Tag,
+    work: Work,
+) -> u32
     requires size { forest.now.size.coroutines ≡ coroutines }
-    requires owns { OwnsAll forest.now share.pass share.from share.to }
-    ensures from { result.from ≡ share.from }
-    ensures to { result.to ≡ share.to }
-    ensures owns { OwnsAll forest.now result.pass result.from result.to }
+    requires owns { OwnsAll forest.now pass.old from to }
+    ensures owns { OwnsAll forest.now pass.new from to }
 {
-    let Share {
-        mut pass,
-        from,
-        to,
-        count: _,
-    } = share;
     let mut count = 0u32;
     for tag in from..to {
-        if work_on(forest, coroutines, &mut pass, alloc, tag, work) {
+        if work_on(forest, coroutines, pass, alloc, tag, work) {
             count = count.saturating_add(1);
         }
     }
-    Share {
-        pass,
-        from,
-        to,
-        count,
-    }
+    count
 }
 
 /// The work of a share.
@@ -152,30 +147,19 @@ pub fn run(forest: &Forest, coroutines: u16, alloc: Global, share: Share, work: 
     ensures to { result.to ≡ share.to }
     ensures owns { OwnsAll forest.now result.pass result.from result.to }
 {
-    match work {
-        Work::CancelRoot => cancel_in(forest, alloc, share),
-        Work::EnterScopes => enter_in(forest, coroutines, alloc, share),
-        Work::Attach | Work::AttachBelow | Work::EndBody | Work::Finish => {
-            work_through(forest, coroutines, alloc, share, work)
-        }
-    }
-}
-
-/// Cancels the root and all below it.
-fn cancel_in(forest: &Forest, alloc: Global, share: Share) -> Share
-    requires some { share.from < share.to }
-    requires owns { OwnsAll forest.now share.pass share.from share.to }
-    ensures from { result.from ≡ share.from }
-    ensures to { result.to ≡ share.to }
-    ensures owns { OwnsAll forest.now result.pass result.from result.to }
-{
     let Share {
         mut pass,
         from,
         to,
-        count: _,
+        ..
     } = share;
-    let count = cancel_root(forest, &mut pass, alloc, from).unwrap_or(0);
+    let count = match work {
+        Work::CancelRoot => cancel_in(forest, &mut pass, alloc, from, to),
+        Work::EnterScopes => enter_in(forest, coroutines, &mut pass, alloc, from, to),
+        Work::Attach | Work::AttachBelow | Work::EndBody | Work::Finish => {
+            work_through(forest, coroutines, &mut pass, alloc, from, to, work)
+        }
+    };
     Share {
         pass,
         from,
@@ -184,49 +168,33 @@ fn cancel_in(forest: &Forest, alloc: Global, share: Share) -> Share
     }
 }
 
-/// Enters a scope in the root, if a row for one is free.
-fn enter(
+/// Cancels the root and all below it, by the first tag of a share: how many Jobs were cancelled.
+fn cancel_in(forest: &Forest, pass: &mut JobPass, alloc: Global, from: Tag, to: Tag) -> u32
+    requires some { from < to }
+    requires owns { OwnsAll forest.now pass.old from to }
+    ensures owns { OwnsAll forest.now pass.new from to }
+{
+    cancel_root(forest, pass, alloc, from).unwrap_or(0)
+}
+
+/// Enters scopes in the root by the first tag of a share, until no row for one is free: how many were entered.
+fn enter_in(
     forest: &Forest,
     coroutines: u16,
     pass: &mut JobPass,
     alloc: Global,
     from: Tag,
     to: Tag,
-) -> bool
+) -> u32
     requires some { from < to }
     requires size { forest.now.size.coroutines ≡ coroutines }
     requires owns { OwnsAll forest.now pass.old from to }
     ensures owns { OwnsAll forest.now pass.new from to }
 {
-    work_on(forest, coroutines, pass, alloc, from, Work::EnterScopes)
-}
-
-/// Enters scopes in the root, until no row for one is free.
-fn enter_in(forest: &Forest, coroutines: u16, alloc: Global, share: Share) -> Share
-    requires some { share.from < share.to }
-    requires size { forest.now.size.coroutines ≡ coroutines }
-    requires owns { OwnsAll forest.now share.pass share.from share.to }
-    ensures from { result.from ≡ share.from }
-    ensures to { result.to ≡ share.to }
-    ensures owns { OwnsAll forest.now result.pass result.from result.to }
-{
-    let Share {
-        mut pass,
-        from,
-        to,
-        count: _,
-    } = share;
-    let mut count = 0u32;
-    for _ in 0..16000 {
-        if !enter(forest, coroutines, &mut pass, alloc, from, to) {
-            break;
+    for count in 0..16000 {
+        if !work_on(forest, coroutines, pass, alloc, from, Work::EnterScopes) {
+            return count;
         }
-        count = count.saturating_add(1);
     }
-    Share {
-        pass,
-        from,
-        to,
-        count,
-    }
+    16000
 }

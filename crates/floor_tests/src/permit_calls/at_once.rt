@@ -71,8 +71,11 @@ struct Plan {
     threads: u32,
 }
 
-/// What two came to.
-type Both = (Result<Tally, Memory>, Result<Tally, Memory>);
+/// What both came to.
+fn sum(both: (Result<Tally, Memory>, Result<Tally, Memory>)) -> Result<Tally, Memory> {
+    let (a, b) = both;
+    Ok(a?.and(b?))
+}
 
 /// The same of the coroutines `who` and `who + 1`, one after the other, or at once by a thread each.
 fn by_two<R: Threads + Wait + Sync>(
@@ -85,7 +88,7 @@ fn by_two<R: Threads + Wait + Sync>(
     who: Tag,
     plan: Plan,
     holding: Option<&AtomicU64>,
-) -> Both
+) -> Result<Tally, Memory>
     requires few { who < 4 }
     requires of_a { IsOf hub.now a }
     requires of_b { IsOf hub.now b }
@@ -93,15 +96,15 @@ fn by_two<R: Threads + Wait + Sync>(
     requires b { UsesPermits p.now.c p.now.n (who + 1) 0 (hub_floor hub.now b) }
 {
     if plan.threads == 4 {
-        return join(
+        return sum(join(
             rt,
             || work(hub, a, alloc, p, who, plan.times, holding),
             || work(hub, b, alloc, p, who + 1, plan.times, holding),
-        );
+        ));
     }
     let first = work(hub, a, alloc, p, who, plan.times, holding);
     let second = work(hub, b, alloc, p, who + 1, plan.times, holding);
-    (first, second)
+    sum((first, second))
 }
 
 /// The same of all four.
@@ -113,7 +116,7 @@ fn by_four<R: Threads + Wait + Sync>(
     p: &Permits,
     plan: Plan,
     holding: Option<&AtomicU64>,
-) -> (Both, Both)
+) -> Result<Tally, Memory>
     requires first { p.now.c ≡ 0 }
     requires four { FourUse p.now.n hub.now four }
 {
@@ -121,23 +124,23 @@ fn by_four<R: Threads + Wait + Sync>(
     if plan.threads == 1 {
         let first = by_two(rt, hub, a, b, alloc, p, 1, plan, holding);
         let second = by_two(rt, hub, c, d, alloc, p, 3, plan, holding);
-        return (first, second);
+        return sum((first, second));
     }
-    join(
+    sum(join(
         rt,
-        || -> Both
+        || -> Result<Tally, Memory>
             requires of_a { IsOf hub.now a }
             requires of_b { IsOf hub.now b }
             requires a { UsesPermits p.now.c p.now.n 1 0 (hub_floor hub.now a) }
             requires b { UsesPermits p.now.c p.now.n 2 0 (hub_floor hub.now b) }
         { by_two(rt, hub, a, b, alloc, p, 1, plan, holding) },
-        || -> Both
+        || -> Result<Tally, Memory>
             requires of_c { IsOf hub.now c }
             requires of_d { IsOf hub.now d }
             requires c { UsesPermits p.now.c p.now.n 3 0 (hub_floor hub.now c) }
             requires d { UsesPermits p.now.c p.now.n 4 0 (hub_floor hub.now d) }
         { by_two(rt, hub, c, d, alloc, p, 3, plan, holding) },
-    )
+    ))
 }
 
 /// Whether all permits are free, and no more.
@@ -174,8 +177,7 @@ pub fn tally_of_four<R: Threads + Wait + Sync + AllocGlobal>(
     let number = AtomicU64::new(0);
     let holding = if counted { Some(&number) } else { None };
     let plan = Plan { times, threads };
-    let ((a, b), (c, d)) = by_four(rt, &hub, four, alloc, p, plan, holding);
-    let tally = a?.and(b?).and(c?).and(d?);
+    let tally = by_four(rt, &hub, four, alloc, p, plan, holding)?;
     let free = are_free(&hub, &mut main, alloc, p)?;
     Ok((tally, free))
 }

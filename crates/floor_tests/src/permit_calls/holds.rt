@@ -96,16 +96,8 @@ fn count_and_release<F: ChannelFloor, B: NoteBook, W: Wakes>(
 {
     let right = at_most(p.n, holding);
     match release(x, p, held) {
-        Ok(Released::Done) => {
-            if right {
-                Ok(Once::Held)
-            } else {
-                Ok(Once::Wrong)
-            }
-        }
-        Ok(Released::NotHeld) => Ok(Once::Wrong),
-        Ok(Released::Closed(_)) => Ok(Once::Wrong),
-        Ok(Released::Spent) => Ok(Once::Wrong),
+        Ok(Released::Done) => Ok(if right { Once::Held } else { Once::Wrong }),
+        Ok(_) => Ok(Once::Wrong),
         Err(memory) => Err(memory),
     }
 }
@@ -124,30 +116,10 @@ fn give_up<F: ChannelFloor, B: NoteBook, W: Wakes>(
     ensures uses { UsesPermits p.now.c p.now.n x.old.who held.new (F.view x.new.floor.now) }
 {
     match cancel_acquire(x, p, held, w) {
-        Ok(GivenBack::Cancelled) => Ok(Once::GivenUp),
-        Ok(GivenBack::Back) => Ok(Once::GivenUp),
-        Ok(GivenBack::Closed(_)) => Ok(Once::Wrong),
-        Ok(GivenBack::Spent) => Ok(Once::Wrong),
+        Ok(GivenBack::Cancelled) | Ok(GivenBack::Back) => Ok(Once::GivenUp),
+        Ok(_) => Ok(Once::Wrong),
         Err(memory) => Err(memory),
     }
-}
-
-/// Goes on with what a wait came to.
-fn after_wait<F: ChannelFloor, B: NoteBook, W: Wakes>(
-    x: &mut Caller<'_, '_, '_, F, B, W>,
-    p: &Permits,
-    held: &mut u32,
-    answer: Acquired,
-    holding: Option<&AtomicU64>,
-) -> Result<Once, Memory>
-    requires uses { UsesPermits p.now.c p.now.n x.old.who held.old (F.view x.old.floor.now) }
-    ensures same { SameCaller F.anchor x.old x.new }
-    ensures uses { UsesPermits p.now.c p.now.n x.old.who held.new (F.view x.new.floor.now) }
-{
-    if answer == Acquired::Held {
-        return count_and_release(x, p, held, holding);
-    }
-    Ok(Once::Wrong)
 }
 
 /// Looks at the wait some times, and takes the permit up that came; or gives the wait up.
@@ -166,7 +138,8 @@ fn wait_a_while<F: ChannelFloor, B: NoteBook, W: Wakes>(
 {
     for _ in 0..LOOKS {
         match take_up_if_resolved(x, p, held, w) {
-            Ok(Some(answer)) => return after_wait(x, p, held, answer, holding),
+            Ok(Some(Acquired::Held)) => return count_and_release(x, p, held, holding),
+            Ok(Some(_)) => return Ok(Once::Wrong),
             Ok(None) => {}
             Err(memory) => return Err(memory),
         }
@@ -188,9 +161,7 @@ fn hold_once<F: ChannelFloor, B: NoteBook, W: Wakes>(
     match acquire(x, p, held) {
         Ok(Acquired::Held) => count_and_release(x, p, held, holding),
         Ok(Acquired::Waits(w)) => wait_a_while(x, p, held, w, holding),
-        Ok(Acquired::Cancelled) => Ok(Once::Wrong),
-        Ok(Acquired::Closed(_)) => Ok(Once::Wrong),
-        Ok(Acquired::Spent) => Ok(Once::Wrong),
+        Ok(_) => Ok(Once::Wrong),
         Err(memory) => Err(memory),
     }
 }

@@ -6,7 +6,7 @@ ghost use Rattle.cell_words.specs.Hubs.{IsOf};
 ghost use Rattle.cell_calls.specs.Desks.{desk_floor, desk_anchor};
 ghost use Rattle.cell_calls.specs.HubFloors.{hub_floor};
 ghost use Rattle.permits.specs.Parts.{UsesPermits, MayFill};
-ghost use Rattle.floor_tests.specs.KnownPermits.{HoldsWait, Knows, WaitsStill, Adds, used, after_acquire};
+ghost use Rattle.floor_tests.specs.KnownPermits.{HoldsWait, Knows, WaitsStill, Adds, used, wait_of};
 
 use crate::no_wakes::NoWakes;
 use cell_calls::Desk;
@@ -47,15 +47,13 @@ pub(crate) fn used(held: u32) -> Known
     Known { held, wait: None }
 }
 
-fn after_acquire(held: u32, answer: Acquired) -> Known
-    ensures { result ≡ after_acquire held answer }
+/// The wait that an acquire began, if it did.
+fn wait_of(answer: Acquired) -> Option<WaitId>
+    ensures { result ≡ wait_of answer }
 {
     match answer {
-        Acquired::Waits(w) => Known {
-            held,
-            wait: Some(w),
-        },
-        Acquired::Held | Acquired::Cancelled | Acquired::Closed(_) | Acquired::Spent => used(held),
+        Acquired::Waits(w) => Some(w),
+        Acquired::Held | Acquired::Cancelled | Acquired::Closed(_) | Acquired::Spent => None,
     }
 }
 
@@ -71,9 +69,7 @@ fn fill_whole<F: ChannelFloor, B: NoteBook, W: Wakes>(
 {
     match fill(x, p) {
         Ok(Filled::Done) => Ok(()),
-        Ok(Filled::Closed(_)) => Err(Memory),
-        Ok(Filled::Spent) => Err(Memory),
-        Err(memory) => Err(memory),
+        Ok(Filled::Closed(_)) | Ok(Filled::Spent) | Err(_) => Err(Memory),
     }
 }
 
@@ -89,16 +85,13 @@ fn acquire_so<F: ChannelFloor, B: NoteBook, W: Wakes>(
     ensures adds { Adds x.old.who (F.view x.old.floor.now) (F.view x.new.floor.now) }
     ensures knows { Knows p.now.c p.now.n x.old.who known.new (F.view x.new.floor.now) }
 {
-    let mut held = known.held;
-    match acquire(x, p, &mut held) {
+    known.wait = None;
+    match acquire(x, p, &mut known.held) {
         Ok(answer) => {
-            *known = after_acquire(held, answer);
+            known.wait = wait_of(answer);
             Ok(answer == wanted)
         }
-        Err(memory) => {
-            *known = used(held);
-            Err(memory)
-        }
+        Err(memory) => Err(memory),
     }
 }
 
@@ -113,16 +106,10 @@ fn try_acquire_so<F: ChannelFloor, B: NoteBook, W: Wakes>(
     ensures adds { Adds x.old.who (F.view x.old.floor.now) (F.view x.new.floor.now) }
     ensures knows { Knows p.now.c p.now.n x.old.who known.new (F.view x.new.floor.now) }
 {
-    let mut held = known.held;
-    match try_acquire(x, p, &mut held) {
-        Ok(answer) => {
-            *known = used(held);
-            Ok(answer == wanted)
-        }
-        Err(memory) => {
-            *known = used(held);
-            Err(memory)
-        }
+    known.wait = None;
+    match try_acquire(x, p, &mut known.held) {
+        Ok(answer) => Ok(answer == wanted),
+        Err(memory) => Err(memory),
     }
 }
 
@@ -137,16 +124,10 @@ fn release_so<F: ChannelFloor, B: NoteBook, W: Wakes>(
     ensures adds { Adds x.old.who (F.view x.old.floor.now) (F.view x.new.floor.now) }
     ensures knows { Knows p.now.c p.now.n x.old.who known.new (F.view x.new.floor.now) }
 {
-    let mut held = known.held;
-    match release(x, p, &mut held) {
-        Ok(answer) => {
-            *known = used(held);
-            Ok(answer == wanted)
-        }
-        Err(memory) => {
-            *known = used(held);
-            Err(memory)
-        }
+    known.wait = None;
+    match release(x, p, &mut known.held) {
+        Ok(answer) => Ok(answer == wanted),
+        Err(memory) => Err(memory),
     }
 }
 
@@ -164,16 +145,10 @@ fn cancel_so<F: ChannelFloor, B: NoteBook, W: Wakes>(
     let Some(w) = known.wait else {
         return Ok(false);
     };
-    let mut held = known.held;
-    match cancel_acquire(x, p, &mut held, w) {
-        Ok(answer) => {
-            *known = used(held);
-            Ok(answer == wanted)
-        }
-        Err(memory) => {
-            *known = used(held);
-            Err(memory)
-        }
+    known.wait = None;
+    match cancel_acquire(x, p, &mut known.held, w) {
+        Ok(answer) => Ok(answer == wanted),
+        Err(memory) => Err(memory),
     }
 }
 
@@ -191,20 +166,10 @@ fn take_up_so<F: ChannelFloor, B: NoteBook, W: Wakes>(
     let Some(w) = known.wait else {
         return Ok(false);
     };
-    let mut held = known.held;
-    match take_up_if_resolved(x, p, &mut held, w) {
-        Ok(Some(answer)) => {
-            *known = used(held);
-            Ok(answer == wanted)
-        }
-        Ok(None) => {
-            *known = used(held);
-            Ok(false)
-        }
-        Err(memory) => {
-            *known = used(held);
-            Err(memory)
-        }
+    known.wait = None;
+    match take_up_if_resolved(x, p, &mut known.held, w) {
+        Ok(answer) => Ok(answer == Some(wanted)),
+        Err(memory) => Err(memory),
     }
 }
 

@@ -1,6 +1,6 @@
-//! Calls of three coroutines on the one permit of a semaphore: on one floor of lists, or over words with a pass for each.
+//! Calls of three coroutines on the one permit of a semaphore: on a floor of lists, or over words with a pass for each.
 
-ghost use Rattle.std.specs.Prelude.{◌≡◌, ℕ, true, IfOk};
+ghost use Rattle.std.specs.Prelude.{◌≡◌, ℕ, IfOk};
 ghost use Rattle.one_thread_floor.specs.ListFloors.{floor_of};
 ghost use Rattle.permits.specs.Parts.{UsesPermits, MayFill};
 ghost use Rattle.floor_tests.specs.KnownPermits.{used};
@@ -12,7 +12,7 @@ use crate::permit_calls::known_calls::{
     Call, Known, call_on, call_on_pass, fill_on, fill_on_pass, used,
 };
 use cell_words::{Hub, Pass};
-use channel_model::{ChannelFloor, Kind};
+use channel_model::Kind;
 use co_base::{Memory, Tag};
 use one_thread_floor::ListFloor;
 use permits::Permits;
@@ -42,13 +42,19 @@ fn none_held() -> Three
     }
 }
 
-// ---- on one floor
+// ---- on lists
+
+/// A floor of one channel that keeps all, of eight places.
+fn new_floor(alloc: Global) -> Result<ListFloor, Memory>
+    ensures fresh { IfOk result (λ f. (t : ℕ) → MayFill 0 1 t (floor_of f)) }
+{
+    ListFloor::new(alloc, &[(Kind::Unlimited, 8)])
+}
 
 /// Tag 0 fills the semaphore, on which none has called yet.
-fn fill_first<F: ChannelFloor>(floor: &mut F, alloc: Global) -> Result<Three, Memory>
-    requires alone { (F.view floor.old).alone ≡ true }
-    requires fresh { (t : ℕ) → MayFill 0 1 t (F.view floor.old) }
-    ensures knows { IfOk result (λ k. AllKnow k (F.view floor.new)) }
+fn fill_first(floor: &mut ListFloor, alloc: Global) -> Result<Three, Memory>
+    requires fresh { (t : ℕ) → MayFill 0 1 t (floor_of floor.old) }
+    ensures knows { IfOk result (λ k. AllKnow k (floor_of floor.new)) }
 {
     match fill_on(floor, alloc, &MUTEX, 0) {
         Ok(()) => Ok(none_held()),
@@ -57,84 +63,46 @@ fn fill_first<F: ChannelFloor>(floor: &mut F, alloc: Global) -> Result<Three, Me
 }
 
 /// Whether the call of tag 0 answers so, and what all know then.
-fn call_a<F: ChannelFloor>(
-    floor: &mut F,
+fn call_a(
+    floor: &mut ListFloor,
     alloc: Global,
     known: &mut Three,
     call: Call,
 ) -> Result<bool, Memory>
-    requires alone { (F.view floor.old).alone ≡ true }
-    requires knows { AllKnow known.old (F.view floor.old) }
-    ensures knows { AllKnow known.new (F.view floor.new) }
+    requires knows { AllKnow known.old (floor_of floor.old) }
+    ensures knows { AllKnow known.new (floor_of floor.new) }
 {
     call_on(floor, alloc, &MUTEX, 0, &mut known.a, call)
 }
 
 /// The same of tag 1.
-fn call_b<F: ChannelFloor>(
-    floor: &mut F,
+fn call_b(
+    floor: &mut ListFloor,
     alloc: Global,
     known: &mut Three,
     call: Call,
 ) -> Result<bool, Memory>
-    requires alone { (F.view floor.old).alone ≡ true }
-    requires knows { AllKnow known.old (F.view floor.old) }
-    ensures knows { AllKnow known.new (F.view floor.new) }
+    requires knows { AllKnow known.old (floor_of floor.old) }
+    ensures knows { AllKnow known.new (floor_of floor.new) }
 {
     call_on(floor, alloc, &MUTEX, 1, &mut known.b, call)
 }
 
 /// The same of tag 2.
-fn call_c<F: ChannelFloor>(
-    floor: &mut F,
+fn call_c(
+    floor: &mut ListFloor,
     alloc: Global,
     known: &mut Three,
     call: Call,
 ) -> Result<bool, Memory>
-    requires alone { (F.view floor.old).alone ≡ true }
-    requires knows { AllKnow known.old (F.view floor.old) }
-    ensures knows { AllKnow known.new (F.view floor.new) }
+    requires knows { AllKnow known.old (floor_of floor.old) }
+    ensures knows { AllKnow known.new (floor_of floor.new) }
 {
     call_on(floor, alloc, &MUTEX, 2, &mut known.c, call)
 }
 
 /// The same of the one with this tag; tag 2 for each above 1.
-fn call_of_three<F: ChannelFloor>(
-    floor: &mut F,
-    alloc: Global,
-    known: &mut Three,
-    who: Tag,
-    call: Call,
-) -> Result<bool, Memory>
-    requires alone { (F.view floor.old).alone ≡ true }
-    requires knows { AllKnow known.old (F.view floor.old) }
-    ensures knows { AllKnow known.new (F.view floor.new) }
-{
-    match who {
-        0 => call_a(floor, alloc, known, call),
-        1 => call_b(floor, alloc, known, call),
-        _ => call_c(floor, alloc, known, call),
-    }
-}
-
-/// A floor of one channel that keeps all, of eight places.
-fn new_floor(alloc: Global) -> Result<ListFloor, Memory>
-    ensures alone { IfOk result (λ f. (floor_of f).alone ≡ true) }
-    ensures fresh { IfOk result (λ f. (t : ℕ) → MayFill 0 1 t (floor_of f)) }
-{
-    ListFloor::new(alloc, &[(Kind::Unlimited, 8)])
-}
-
-/// Tag 0 fills the semaphore on lists.
-fn fill_list(floor: &mut ListFloor, alloc: Global) -> Result<Three, Memory>
-    requires fresh { (t : ℕ) → MayFill 0 1 t (floor_of floor.old) }
-    ensures knows { IfOk result (λ k. AllKnow k (floor_of floor.new)) }
-{
-    fill_first(floor, alloc)
-}
-
-/// The call on lists.
-fn call_on_list(
+fn call_of_three(
     floor: &mut ListFloor,
     alloc: Global,
     known: &mut Three,
@@ -144,16 +112,20 @@ fn call_on_list(
     requires knows { AllKnow known.old (floor_of floor.old) }
     ensures knows { AllKnow known.new (floor_of floor.new) }
 {
-    call_of_three(floor, alloc, known, who, call)
+    match who {
+        0 => call_a(floor, alloc, known, call),
+        1 => call_b(floor, alloc, known, call),
+        _ => call_c(floor, alloc, known, call),
+    }
 }
 
 /// How many of the calls answer so, from the first on, after tag 0 filled the semaphore.
 pub fn right_on_list(alloc: Global, calls: &[(Tag, Call)]) -> Result<usize, Memory> {
     let mut floor = new_floor(alloc)?;
-    let mut known = fill_list(&mut floor, alloc)?;
+    let mut known = fill_first(&mut floor, alloc)?;
     for i in 0..calls.len() {
         let (who, call) = calls[i];
-        if !call_on_list(&mut floor, alloc, &mut known, who, call)? {
+        if !call_of_three(&mut floor, alloc, &mut known, who, call)? {
             return Ok(i);
         }
     }

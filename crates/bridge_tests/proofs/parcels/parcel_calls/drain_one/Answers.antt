@@ -4,7 +4,7 @@ use Rattle.parcel_channel.proofs.ClosesSeen.{voided_still}
 use Rattle.bridge_tests.proofs.parcels.parcel_calls.drain_one.Goals as goal
 
 pub returns-clause-voided : goal.returns-clause-voided
-returns-clause-voided c =
+returns-clause-voided g c =
     let hub = c.args.hub.now in
     let old = c.args.pass.now in
     let new = c.drain.new.pass in

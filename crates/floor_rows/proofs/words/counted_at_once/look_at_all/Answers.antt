@@ -1,11 +1,6 @@
 use Rattle.floor_rows.proofs.CellsStayDrawn.{all_still}
 use Rattle.floor_rows.proofs.words.counted_at_once.look_at_all.Goals as goal
 
-pub returns-in_err-push-clause-others : goal.returns-in_err-push-clause-others
-returns-in_err-push-clause-others c =
-    all_still c.args.counted.now c.loop-place.pass c.look.new.pass c.args.others.now c.look.ensures.same c.look.ensures.stays
-    c.loop-place.invariant.others
-
 pub loop-place-preserved : goal.loop-place-preserved
 loop-place-preserved c = record {
   of = c.look.ensures.of;

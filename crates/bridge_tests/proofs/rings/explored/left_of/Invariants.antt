@@ -1,5 +1,0 @@
-use Rattle.bridge_tests.specs.RingPasses.{IsPass}
-use Rattle.bridge_tests.proofs.rings.explored.left_of.Given as goal
-
-abbrev pub invariant-loop : goal.invariant-loop
-invariant-loop l = IsPass l.ring 0 l.pass

@@ -1,5 +1,0 @@
-use Rattle.bridge_tests.specs.RingPasses.{AreThree}
-use Rattle.bridge_tests.proofs.rings.wait_rows.first_wrong.Given as goal
-
-abbrev pub invariant-loop-by : goal.invariant-loop-by
-invariant-loop-by l = AreThree l.ring l.three.main l.three.one l.three.two

@@ -1,0 +1,156 @@
+//! A sink and a stream of owned values that are polled as tasks, which sleep while they have to wait.
+ghost use Rattle.std.specs.Prelude.{◌<◌};
+ghost use Rattle.parcel_channel.specs.Hubs.{IsOf};
+
+use crate::parcels::parcel_calls::{Three, new_channel};
+use channel_model::Kind;
+use futures::executor::block_on;
+use futures::future::join as join_tasks;
+use futures::stream::iter;
+use futures::task::Poll;
+use futures::test::MockTask;
+use futures::{SinkExt, Stream, StreamExt};
+use parcel_channel::{ParcelHub, ParcelPass, ParcelSent};
+use ring_bridge::Bells;
+use std::alloc::AllocGlobal;
+use std::random::RandomSource;
+use std::sync::Wait;
+use waiting::{ParcelSink, ParcelStream, ReceiveFault, SendFault, send};
+
+/// Whether these are a hundred numbers from 0 on.
+fn are_numbers(items: &[Result<u32, ReceiveFault>]) -> bool {
+    let mut due = 0u32;
+    for item in items {
+        if !matches!(item, Ok(number) if *number == due) {
+            return false;
+        }
+        due = due.wrapping_add(1);
+    }
+    due == 100
+}
+
+/// Whether memory was there for them, and they are these.
+fn are_all<E: Drop>(items: Result<Vec<Result<u32, ReceiveFault>>, E>) -> bool {
+    match items {
+        Ok(items) => are_numbers(items.as_slice()),
+        Err(_) => false,
+    }
+}
+
+/// A sink and a stream take turns: a hundred numbers go over a channel that keeps one.
+fn take_turns<R: Wait + RandomSource + AllocGlobal>(
+    rt: &R,
+    hub: &ParcelHub<u32>,
+    bells: &Bells,
+    one: ParcelPass<u32>,
+    two: ParcelPass<u32>,
+) -> bool
+    requires one { IsOf hub.now one }
+    requires two { IsOf hub.now two }
+    requires low { (one.tag < 63) × (two.tag < 63) }
+{
+    let numbers = iter(0..100u32).map(|n| -> Result<u32, SendFault<u32>> { Ok(n) });
+    let sends = ParcelSink::new(hub, bells, one).send_all(numbers);
+    let receives = ParcelStream::new(hub, bells, two)
+        .take(100)
+        .collect(rt.alloc());
+    match block_on(rt, join_tasks(sends, receives)) {
+        Ok((sent, received)) => sent.is_ok() & are_all(received),
+        Err(_) => false,
+    }
+}
+
+/// What a poll of the task comes to: 0 where it is pending, and else the number that it gives, or 99.
+fn polled(task: &MockTask, stream: &mut ParcelStream<'_, u32>) -> u32 {
+    match task.enter(|cx| stream.poll_next(cx)) {
+        Poll::Pending => 0,
+        Poll::Ready(Some(Ok(number))) => number,
+        Poll::Ready(_) => 99,
+    }
+}
+
+/// Whether the poll comes to this, and whether the task is woken then.
+fn polls_to(task: &MockTask, stream: &mut ParcelStream<'_, u32>, number: u32, woken: bool) -> bool {
+    let found = polled(task, stream);
+    found == number && task.is_woken() == woken
+}
+
+/// A stream sleeps until it is woken, and receives 7.
+fn is_woken<R: Wait>(
+    rt: &R,
+    task: &MockTask,
+    hub: &ParcelHub<u32>,
+    bells: &Bells,
+    stream: &mut ParcelStream<'_, u32>,
+    two: &mut ParcelPass<u32>,
+) -> bool
+    requires two { IsOf hub.now two.old }
+    ensures two { IsOf hub.now two.new }
+{
+    let sleeps = polls_to(task, stream, 0, false);
+    let sent = send(rt, hub, bells, two, 7).is_ok();
+    let woken = task.is_woken();
+    let came = polled(task, stream) == 7;
+    sleeps & sent & woken & came & (polled(task, stream) == 0)
+}
+
+/// The same; and one that is dropped takes its wait back.
+fn sleeps_with<R: Wait>(
+    rt: &R,
+    task: &MockTask,
+    hub: &ParcelHub<u32>,
+    bells: &Bells,
+    one: ParcelPass<u32>,
+    mut two: ParcelPass<u32>,
+) -> bool
+    requires one { IsOf hub.now one }
+    requires two { IsOf hub.now two }
+    requires low { (one.tag < 63) × (two.tag < 63) }
+{
+    let mut stream = ParcelStream::new(hub, bells, one);
+    let woken = is_woken(rt, task, hub, bells, &mut stream, &mut two);
+    drop(stream);
+    let kept = matches!(hub.send(&mut two, 8), ParcelSent::Sent(None, 0));
+    woken & kept
+}
+
+/// The same with a task of its own.
+fn is_dropped<R: Wait + RandomSource + AllocGlobal>(
+    rt: &R,
+    hub: &ParcelHub<u32>,
+    bells: &Bells,
+    one: ParcelPass<u32>,
+    two: ParcelPass<u32>,
+) -> bool
+    requires one { IsOf hub.now one }
+    requires two { IsOf hub.now two }
+    requires low { (one.tag < 63) × (two.tag < 63) }
+{
+    match MockTask::new(rt) {
+        Ok(task) => sleeps_with(rt, &task, hub, bells, one, two),
+        Err(_) => false,
+    }
+}
+
+/// Whether one of the two goes as it says, on a channel that keeps one.
+pub(crate) fn went<R: Wait + RandomSource + AllocGlobal>(
+    rt: &R,
+    bells: &Bells,
+    turns: bool,
+) -> bool {
+    match new_channel::<u32>(rt.alloc(), Kind::Buffered(1), 100, 100) {
+        Ok((hub, three)) => {
+            let Three {
+                main: _main,
+                one,
+                two,
+            } = three;
+            if turns {
+                take_turns(rt, &hub, bells, one, two)
+            } else {
+                is_dropped(rt, &hub, bells, one, two)
+            }
+        }
+        Err(_) => false,
+    }
+}
