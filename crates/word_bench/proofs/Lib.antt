@@ -1,4 +1,2 @@
 mod CallersGoOn
-pub mod PassesKept
-pub mod TagsEnded
 mod WaitsBegun

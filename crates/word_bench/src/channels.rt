@@ -24,7 +24,7 @@
 //! by two or four threads where senders and receivers are apart, by four where each sends and then selects. There a receive that gave up
 //! leaves nothing behind.
 //!
-//! - `measured`: the channels.
+//! - `measured`: the cases.
 //! - `on_passes`: calls of one pass of a hub.
 //! - `waits`: selects, and waits that are taken back.
 //! - `apart`: sends and receives that wait.
@@ -32,7 +32,7 @@
 //! - `by_one`: one coroutine.
 //! - `counted_at_once`: four passes of counted cells.
 //! - `beside`: crossbeam_channel.
-ghost use Rattle.std.specs.Prelude.{◌≤◌, IfOk};
+ghost use Rattle.std.specs.Prelude.{◌≤◌};
 
 mod apart;
 mod at_once;
@@ -43,56 +43,18 @@ mod measured;
 mod on_passes;
 mod waits;
 
-use crate::told::tell;
-use at_once::{Work, met_by_four};
-use beside::{Beside, by_so_many, select_by_four};
-use by_one::Times;
-use channel_model::Kind;
+use crate::told::{Done, Words, small, tell};
 use counted_at_once::drawn_by;
-use measured::{ALL, FILLINGS, Filling, Measured, WITHDRAWN, Withdrawn};
-use std::rt::Env;
+use measured::{BY_FOUR, BY_ONE, By, ByFour, ByOne};
+use std::io;
 use std::sync::Wait;
 use std::thread::Threads;
 use std::time::Clock;
-use std::{env, io};
-
-/// What is to be measured.
-#[derive(Drop)]
-struct Wanted {
-    transfers: u32,
-    /// By how many threads, if that is said.
-    threads: Option<u32>,
-    /// Which case, if that is said.
-    case: Option<String>,
-}
-
-/// The number that the word says.
-fn number(word: Option<String>) -> Option<u32> {
-    match word {
-        Some(word) => word.as_str().parse::<u32>().ok(),
-        None => None,
-    }
-}
-
-/// What the words say; there are 4 transfers at least.
-fn read_words(rt: &(impl Env + AllocGlobal)) -> io::Result<Wanted>
-    ensures { IfOk result (λ w. (4 ≤ w.transfers) × (w.transfers ≤ 1048576)) }
-{
-    let mut words = env::args(rt)?.skip(2);
-    let transfers = number(words.next()).unwrap_or(1000);
-    let threads = number(words.next());
-    let case = words.next();
-    Ok(Wanted {
-        transfers: transfers.clamp(4, 1048576),
-        threads,
-        case,
-    })
-}
 
 /// Whether all cases are wanted, or this group, or this name.
-fn is_wanted(case: &Option<String>, group: &str, name: &str) -> bool {
-    match case {
-        Some(case) => case.as_str() == group || case.as_str() == name,
+fn is_wanted(words: &Words, group: &str, name: &str) -> bool {
+    match &words.fourth {
+        Some(word) => word.as_str() == group || word.as_str() == name,
         None => true,
     }
 }
@@ -106,222 +68,85 @@ fn places_for(transfers: u32) -> u32
     (2 * transfers).min(1048576)
 }
 
-/// How many turns each of four makes of so many transfers. By no threads they make none.
-fn quarter_of(transfers: u32, threads: u32) -> u32 {
-    if threads == 0 { 0 } else { transfers / 4 }
+/// A case of four coroutines.
+fn met_by_four<R: Threads + Wait + Sync + Clock + AllocGlobal>(
+    rt: &R,
+    case: &ByFour,
+    transfers: u32,
+    threads: u32,
+) -> Done
+    requires transfers { (4 ≤ transfers) × (transfers ≤ 1048576) }
+{
+    let transfers = case.transfers(transfers);
+    let times = case.times(transfers, threads);
+    match case.by {
+        By::Words => {
+            let places = places_for(transfers);
+            at_once::met_by_four(rt, case.kept, places, case.work, times, threads)
+        }
+        By::Cells => drawn_by(rt, transfers, times, threads),
+        By::Crossbeam => beside::met_by_four(rt, case.kept, case.work, times, threads),
+    }
 }
 
-/// Transfers by coroutines that offer and receive by turns.
-fn bench_by_turns<R: Threads + Wait + Sync + Clock + Print + Eprint + AllocGlobal>(
+/// A case of one coroutine. A channel that keeps nothing has 4,096 places.
+fn done_by_one<R: Wait + Clock + AllocGlobal>(rt: &R, case: &ByOne, transfers: u32) -> Done {
+    let times = case.times(transfers);
+    match (case.by, case.kept) {
+        (By::Crossbeam, _) => beside::done_by_one(rt, case.kept, times),
+        (_, 0) => by_one::done_by_one(rt, 0, 4096, times),
+        _ => by_one::done_by_one(rt, case.kept, 1048576, times),
+    }
+}
+
+/// The cases of four coroutines, by so many threads.
+fn bench_by_four<R: Threads + Wait + Sync + Clock + Print + Eprint + AllocGlobal>(
     rt: &R,
-    case: &Option<String>,
-    channel: Measured,
+    words: &Words,
     transfers: u32,
     threads: u32,
 ) -> io::Result<()>
-    requires some { 4 ≤ transfers }
-    requires few { transfers ≤ 1048576 }
+    requires transfers { (4 ≤ transfers) × (transfers ≤ 1048576) }
 {
-    let name = channel.name();
-    let times = quarter_of(transfers, threads);
-    if is_wanted(case, name, name) {
-        let (places, work) = (places_for(transfers), (Work::Both, Work::Both));
-        let done = met_by_four(rt, channel.kind(), places, work, times, threads);
-        tell(rt, name, threads, done, "")?;
+    for case in BY_FOUR {
+        if case.least <= threads && is_wanted(words, case.group, case.name) {
+            let done = met_by_four(rt, case, transfers, threads);
+            tell(rt, case.name, threads, done, "")?;
+        }
     }
-    let Some(beside) = channel.beside_by_turns() else {
-        return Ok(());
-    };
-    if !is_wanted(case, beside, beside) {
-        return Ok(());
-    }
-    let work = (Beside::Both, Beside::Both);
-    let done = by_so_many(rt, channel.capacity(), work, (times, times), threads);
-    tell(rt, beside, threads, done, "")
-}
-
-/// Transfers by senders and receivers that are apart.
-fn bench_apart<R: Threads + Wait + Sync + Clock + Print + Eprint + AllocGlobal>(
-    rt: &R,
-    case: &Option<String>,
-    channel: Measured,
-    transfers: u32,
-    threads: u32,
-) -> io::Result<()>
-    requires some { 4 ≤ transfers }
-    requires few { transfers ≤ 1048576 }
-{
-    if threads < 2 {
-        return Ok(());
-    }
-    let (name, beside) = channel.names_apart();
-    if is_wanted(case, "apart", name) {
-        let (places, work) = (places_for(transfers), (Work::Sends, Work::Receives));
-        let done = met_by_four(rt, channel.kind(), places, work, transfers / 4, threads);
-        tell(rt, name, threads, done, "")?;
-    }
-    if !is_wanted(case, "apart", beside) {
-        return Ok(());
-    }
-    let half = transfers / 2;
-    let other = if threads == 2 { transfers - half } else { half };
-    let work = (Beside::Sends, Beside::Receives);
-    let done = by_so_many(rt, channel.capacity(), work, (half, other), threads);
-    tell(rt, beside, threads, done, "")
-}
-
-/// Selects of two channels.
-fn bench_select<R: Threads + Wait + Sync + Clock + Print + Eprint + AllocGlobal>(
-    rt: &R,
-    case: &Option<String>,
-    selects: u32,
-    threads: u32,
-) -> io::Result<()>
-    requires some { 4 ≤ selects }
-    requires few { selects ≤ 1048576 }
-{
-    let beside = "select crossbeam";
-    if is_wanted(case, "select", "select") {
-        let (kind, places) = (Kind::Buffered(64), places_for(selects));
-        let (work, times) = ((Work::Selects, Work::Selects), quarter_of(selects, threads));
-        let done = met_by_four(rt, kind, places, work, times, threads);
-        tell(rt, "select", threads, done, "")?;
-    }
-    if threads < 4 || !is_wanted(case, "select", beside) {
-        return Ok(());
-    }
-    tell(rt, beside, threads, select_by_four(rt, selects / 4), "")
-}
-
-/// The cases of four coroutines.
-fn bench_at_once<R: Threads + Wait + Sync + Clock + Print + Eprint + AllocGlobal>(
-    rt: &R,
-    case: &Option<String>,
-    transfers: u32,
-    threads: u32,
-) -> io::Result<()>
-    requires some { 4 ≤ transfers }
-    requires few { transfers ≤ 1048576 }
-{
-    for channel in ALL {
-        bench_by_turns(rt, case, channel, transfers, threads)?;
-    }
-    if is_wanted(case, "counted", "counted") {
-        let done = drawn_by(rt, transfers, quarter_of(transfers, threads), threads);
-        tell(rt, "counted", threads, done, "")?;
-    }
-    for channel in ALL {
-        bench_apart(rt, case, channel, transfers, threads)?;
-    }
-    bench_select(rt, case, transfers.min(262144), threads)
-}
-
-/// Transfers by one coroutine on a buffered channel that keeps so many elements already.
-fn bench_full<R: Wait + Clock + Print + Eprint + AllocGlobal>(
-    rt: &R,
-    case: &Option<String>,
-    filling: Filling,
-    transfers: u32,
-) -> io::Result<()> {
-    let Filling {
-        capacity,
-        queued,
-        name,
-        beside,
-    } = filling;
-    let times = Times {
-        queued,
-        withdrawn: 0,
-        transfers,
-        tries: 0,
-    };
-    if is_wanted(case, "full", name) {
-        let done = by_one::done_by_one(rt, Kind::Buffered(capacity), 1048576, times);
-        tell(rt, name, 1, done, "")?;
-    }
-    if !is_wanted(case, "full", beside) {
-        return Ok(());
-    }
-    let done = beside::done_by_one(rt, capacity, times);
-    tell(rt, beside, 1, done, "")
-}
-
-/// Offers by one coroutine that do not wait, where so many receivers were withdrawn.
-fn bench_withdrawn<R: Wait + Clock + Print + Eprint + AllocGlobal>(
-    rt: &R,
-    case: &Option<String>,
-    withdrawn: Withdrawn,
-    offers: u32,
-) -> io::Result<()> {
-    let Withdrawn {
-        receivers,
-        name,
-        beside,
-    } = withdrawn;
-    let times = Times {
-        queued: 0,
-        withdrawn: receivers,
-        transfers: 0,
-        tries: offers,
-    };
-    if is_wanted(case, "withdrawn", name) {
-        let done = by_one::done_by_one(rt, Kind::Rendezvous, 4096, times);
-        tell(rt, name, 1, done, "")?;
-    }
-    if !is_wanted(case, "withdrawn", beside) {
-        return Ok(());
-    }
-    let done = beside::done_by_one(rt, 0, times);
-    tell(rt, beside, 1, done, "")
+    Ok(())
 }
 
 /// The cases of one coroutine.
 fn bench_by_one<R: Wait + Clock + Print + Eprint + AllocGlobal>(
     rt: &R,
-    case: &Option<String>,
+    words: &Words,
     transfers: u32,
 ) -> io::Result<()> {
-    for filling in FILLINGS {
-        bench_full(rt, case, filling, transfers)?;
-    }
-    for withdrawn in WITHDRAWN {
-        bench_withdrawn(rt, case, withdrawn, transfers / 16)?;
+    for case in BY_ONE {
+        if is_wanted(words, case.group, case.name) {
+            tell(rt, case.name, 1, done_by_one(rt, case, transfers), "")?;
+        }
     }
     Ok(())
 }
 
-/// By so many threads, or by 1, 2 and 4.
-fn bench_said<R: Threads + Wait + Sync + Clock + Print + Eprint + AllocGlobal>(
+/// All cases that the words ask for, by so many threads as they say, or by 1, 2 and 4.
+pub(crate) fn bench<R: Threads + Wait + Sync + Clock + Print + Eprint + AllocGlobal>(
     rt: &R,
-    case: &Option<String>,
-    transfers: u32,
-    threads: Option<u32>,
-) -> io::Result<()>
-    requires some { 4 ≤ transfers }
-    requires few { transfers ≤ 1048576 }
-{
-    let Some(threads) = threads else {
+    words: &Words,
+) -> io::Result<()> {
+    let transfers = small(words.second).unwrap_or(1000).clamp(4, 1048576);
+    let Some(threads) = small(words.third) else {
         for threads in [1u32, 2, 4] {
-            bench_at_once(rt, case, transfers, threads)?;
+            bench_by_four(rt, words, transfers, threads)?;
         }
-        return bench_by_one(rt, case, transfers);
+        return bench_by_one(rt, words, transfers);
     };
-    bench_at_once(rt, case, transfers, threads)?;
+    bench_by_four(rt, words, transfers, threads)?;
     match threads {
-        0 => bench_by_one(rt, case, 0),
-        1 => bench_by_one(rt, case, transfers),
+        0 => bench_by_one(rt, words, 0),
+        1 => bench_by_one(rt, words, transfers),
         _ => Ok(()),
     }
-}
-
-/// All cases that the words ask for.
-pub(crate) fn bench<R: Env + Threads + Wait + Sync + Clock + Print + Eprint + AllocGlobal>(
-    rt: &R,
-) -> io::Result<()> {
-    let Wanted {
-        transfers,
-        threads,
-        case,
-    } = read_words(rt)?;
-    bench_said(rt, &case, transfers, threads)
 }

@@ -9,13 +9,12 @@
 ghost use Rattle.gates.specs.Passes.{IsOf};
 
 use crate::semaphores::gates_at_once::take;
-use crate::shares::by_four;
-use crate::told::{no_memory, now, since, small_at};
+use crate::shares::{Worked, Worker, by_four};
+use crate::told::{Line, Words, no_memory, now, small};
 use co_base::Memory;
 use gates::{Gate, GatePass, TryAcquired};
 use std::alloc::Global;
 use std::io;
-use std::rt::Env;
 use std::sync::Wait;
 use std::sync::atomic::{AtomicU32, Ordering};
 use std::thread::Threads;
@@ -24,22 +23,35 @@ use std::time::Clock;
 /// How many permits.
 const PERMITS: u32 = 2;
 
-/// Holds a permit so many times. Tells how often it did, and how many held one at most meanwhile, as far as it saw.
-fn hold_often(gate: &Gate, holders: &AtomicU32, pass: &mut GatePass, times: u32) -> (u32, u32)
-    requires { IsOf gate.now pass.old }
-{
-    let mut held = 0u32;
-    let mut most = 0u32;
-    for turn in 0..times {
-        if take(gate, pass) {
-            let others = holders.fetch_add(1, Ordering::SeqCst);
-            most = most.max(others.saturating_add(1));
-            holders.fetch_sub(1, Ordering::SeqCst);
-            gate.release(pass, turn % 48);
-            held = held.saturating_add(1);
+/// A gate, and how many hold a permit of it.
+#[derive(Drop)]
+struct Guarded {
+    gate: Gate,
+    holders: AtomicU32,
+}
+
+/// One that holds a permit in each turn, and how many held one at most meanwhile, as far as it saw.
+#[derive(Drop)]
+struct Holder {
+    pass: GatePass,
+    most: u32,
+}
+
+impl Worker for Holder {
+    type Floor = Guarded;
+
+    ghost can_work = { λ guarded one. IsOf guarded.gate one.pass };
+
+    fn turn(&mut self, guarded: &Guarded, number: u64) -> Option<u64> {
+        if take(&guarded.gate, &mut self.pass) {
+            let others = guarded.holders.fetch_add(1, Ordering::SeqCst);
+            self.most = self.most.max(others.saturating_add(1));
+            guarded.holders.fetch_sub(1, Ordering::SeqCst);
+            guarded.gate.release(&mut self.pass, (number % 48) as u32);
+            return Some(1);
         }
+        Some(0)
     }
-    (held, most)
 }
 
 /// Whether both permits are free.
@@ -55,53 +67,63 @@ fn are_free(gate: &Gate, pass: &mut GatePass) -> bool
     )
 }
 
-/// How often four passes held a permit, and how many held one at most.
-fn sum_of(four: (((u32, u32), (u32, u32)), ((u32, u32), (u32, u32)))) -> (u64, u32) {
-    let ((a, b), (c, d)) = four;
-    let held = u64::from(a.0)
-        .wrapping_add(u64::from(b.0))
-        .wrapping_add(u64::from(c.0))
-        .wrapping_add(u64::from(d.0));
-    (held, a.1.max(b.1).max(c.1).max(d.1))
+/// How often both held a permit, and how many held one at most.
+fn sum_of(two: (Worked<Holder>, Worked<Holder>)) -> (u64, u32) {
+    let (a, b) = two;
+    (a.1.saturating_add(b.1), a.0.most.max(b.0.most))
 }
 
 /// So often by each of four threads. Answers how often a permit was held, by how many at most, and whether both are free in the end.
 fn soak<R: Threads + Wait + Sync>(
     rt: &R,
     alloc: Global,
-    times: u32,
+    times: u64,
 ) -> Result<(u64, u32, bool), Memory> {
     let (gate, mut last) = Gate::new(alloc, PERMITS)?;
-    let mut a = gate.split(&mut last);
-    let mut b = gate.split(&mut last);
-    let mut c = gate.split(&mut last);
-    let mut d = gate.split(&mut last);
-    let gate = &gate;
-    let holders = &AtomicU32::new(0);
-    let left = (
-        || hold_often(gate, holders, &mut a, times),
-        || hold_often(gate, holders, &mut b, times),
-    );
-    let right = (
-        || hold_often(gate, holders, &mut c, times),
-        || hold_often(gate, holders, &mut d, times),
-    );
-    let (held, most) = sum_of(by_four(rt, 4, left, right));
-    Ok((held, most, are_free(gate, &mut last)))
+    let a = gate.split(&mut last);
+    let b = gate.split(&mut last);
+    let c = gate.split(&mut last);
+    let d = gate.split(&mut last);
+    let holders = AtomicU32::new(0);
+    let guarded = Guarded { gate, holders };
+    let left = (Holder { pass: a, most: 0 }, Holder { pass: b, most: 0 });
+    let right = (Holder { pass: c, most: 0 }, Holder { pass: d, most: 0 });
+    let (left, right) = by_four(rt, 4, &guarded, (left, right), (times, times));
+    let ((held, most), (more, other)) = (sum_of(left), sum_of(right));
+    let free = are_free(&guarded.gate, &mut last);
+    Ok((held.saturating_add(more), most.max(other), free))
 }
 
-pub(crate) fn bench<R: Env + Threads + Wait + Sync + Clock + Print + Eprint + AllocGlobal>(
+/// Says how often a permit was held, and whether all went right.
+fn say_right<R: Clock + Print + AllocGlobal>(rt: &R, held: u64, right: bool) -> io::Result<()> {
+    let mut line = Line::since(rt, None);
+    line.add("gate soak: ");
+    line.add(held);
+    line.add(" times held, by two at most and both free in the end: ");
+    line.add(right);
+    line.say(rt)
+}
+
+pub(crate) fn bench<R: Threads + Wait + Sync + Clock + Print + Eprint + AllocGlobal>(
     rt: &R,
+    words: &Words,
 ) -> io::Result<()> {
-    let times = small_at(rt, 2, 1_000_000)?;
+    let times = small(words.second).unwrap_or(1_000_000);
     let begun = now(rt);
-    let Ok((held, most, free)) = soak(rt, rt.alloc(), times / 4) else {
+    let Ok((held, most, free)) = soak(rt, rt.alloc(), u64::from(times / 4)) else {
         return Err(no_memory());
     };
-    let spent = since(rt, begun)?;
     let right = free && most <= PERMITS;
-    println!(rt; "gate soak: {held} times held, by two at most and both free in the end: {right}")?;
-    eprintln!(rt;
-        "gate soak: {held} times held, by {most} at most, both free in the end: {free}: {right}, in {spent:?}"
-    )
+    let mut line = Line::since(rt, begun);
+    line.add("gate soak: ");
+    line.add(held);
+    line.add(" times held, by ");
+    line.add(most);
+    line.add(" at most, both free in the end: ");
+    line.add(free);
+    line.add(": ");
+    line.add(right);
+    line.add(",");
+    say_right(rt, held, right)?;
+    line.say_time(rt)
 }

@@ -28,13 +28,16 @@ mod soak;
 mod streams;
 mod told;
 
-use std::rt::Env;
-use std::{env, io};
+use std::io;
+use std::random::RandomSource;
+use std::sync::Wait;
+use std::thread::Threads;
+use std::time::Clock;
+use told::{Words, read_words};
 
 /// What is measured.
 #[derive(Clone, Copy)]
-enum What {
-    All,
+enum Bench {
     Channels,
     Parcels,
     Permits,
@@ -45,48 +48,60 @@ enum What {
     Sleeps,
 }
 
-/// What the first word says.
-fn what_of(word: Option<String>) -> Option<What> {
-    let Some(word) = word else {
-        return Some(What::All);
-    };
-    match word.as_str() {
-        "channels" => Some(What::Channels),
-        "parcels" => Some(What::Parcels),
-        "permits" => Some(What::Permits),
-        "forest" => Some(What::Forest),
-        "streams" => Some(What::Streams),
-        "soak" => Some(What::Soak),
-        "gate_soak" => Some(What::GateSoak),
-        "sleeps" => Some(What::Sleeps),
-        _ => None,
+/// The word for each. With no words the first five are measured.
+const BENCHES: &[(&str, Bench)] = &[
+    ("channels", Bench::Channels),
+    ("parcels", Bench::Parcels),
+    ("permits", Bench::Permits),
+    ("forest", Bench::Forest),
+    ("streams", Bench::Streams),
+    ("soak", Bench::Soak),
+    ("gate_soak", Bench::GateSoak),
+    ("sleeps", Bench::Sleeps),
+];
+
+fn run<R: Threads + Wait + Sync + Clock + Print + Eprint + RandomSource + AllocGlobal>(
+    rt: &R,
+    bench: Bench,
+    words: &Words,
+) -> io::Result<()> {
+    match bench {
+        Bench::Channels => channels::bench(rt, words),
+        Bench::Parcels => parcels::bench(rt, words),
+        Bench::Permits => semaphores::bench(rt, words),
+        Bench::Forest => forests::bench(rt, words),
+        Bench::Streams => streams::bench(rt, words),
+        Bench::Soak => soak::bench(rt, words),
+        Bench::GateSoak => gate_soak::bench(rt, words),
+        Bench::Sleeps => sleeps::bench(rt, words),
     }
 }
 
-fn first_word(rt: &(impl Env + AllocGlobal)) -> io::Result<Option<String>> {
-    let mut words = env::args(rt)?.skip(1);
-    Ok(words.next())
+/// The bench that the word names.
+fn bench_of(word: &str) -> io::Result<Bench> {
+    for (name, bench) in BENCHES {
+        if word == *name {
+            return Ok(*bench);
+        }
+    }
+    Err(io::Error::from(io::ErrorKind::InvalidInput))
+}
+
+/// The bench that the words name, or the first five.
+fn run_said<R: Threads + Wait + Sync + Clock + Print + Eprint + RandomSource + AllocGlobal>(
+    rt: &R,
+    words: &Words,
+) -> io::Result<()> {
+    if let Some(word) = &words.bench {
+        return run(rt, bench_of(word.as_str())?, words);
+    }
+    for (_, bench) in &BENCHES[..5] {
+        run(rt, *bench, words)?;
+    }
+    Ok(())
 }
 
 fn main(rt: HostRuntime) -> io::Result<()> {
-    let Some(what) = what_of(first_word(&rt)?) else {
-        return Err(io::Error::from(io::ErrorKind::InvalidInput));
-    };
-    match what {
-        What::Channels => channels::bench(&rt),
-        What::Parcels => parcels::bench(&rt),
-        What::Permits => semaphores::bench(&rt),
-        What::Forest => forests::bench(&rt),
-        What::Streams => streams::bench(&rt),
-        What::Soak => soak::bench(&rt),
-        What::GateSoak => gate_soak::bench(&rt),
-        What::Sleeps => sleeps::bench(&rt),
-        What::All => {
-            channels::bench(&rt)?;
-            parcels::bench(&rt)?;
-            semaphores::bench(&rt)?;
-            forests::bench(&rt)?;
-            streams::bench(&rt)
-        }
-    }
+    let words = read_words(&rt)?;
+    run_said(&rt, &words)
 }

@@ -12,22 +12,58 @@
 //! - `messages`: the same by the kit's channel
 //! - `rings`: the same through a ring
 ghost use Rattle.std.specs.Prelude.{◌≤◌};
-ghost use Rattle.parcel_channel.specs.Numbers.{KeepsAll};
 
 mod boxes;
 mod messages;
 mod rings;
 
-use crate::told::{small_at, tell};
+use crate::told::{Done, Words, small, tell};
 use boxes::sent_by;
 use channel_model::Kind;
 use messages::exchanged_by;
 use rings::moved_by;
 use std::io;
-use std::rt::Env;
 use std::sync::Wait;
 use std::thread::Threads;
 use std::time::Clock;
+
+/// What the boxes go through.
+#[derive(Clone, Copy)]
+enum Through {
+    Rendezvous,
+    Buffered,
+    /// A `crossbeam_channel` that keeps so many.
+    Crossbeam(usize),
+    /// A ring of so many slots.
+    Ring(u32),
+}
+
+const CASES: &[(&str, Through)] = &[
+    ("rendezvous", Through::Rendezvous),
+    ("buffered", Through::Buffered),
+    ("crossbeam 64", Through::Crossbeam(64)),
+    ("ring 64", Through::Ring(64)),
+    ("crossbeam 1024", Through::Crossbeam(1024)),
+    ("ring 1024", Through::Ring(1024)),
+];
+
+/// So many transfers through one, by so many threads: how many came.
+fn moved<R: Threads + Wait + Sync + Clock + AllocGlobal>(
+    rt: &R,
+    through: Through,
+    transfers: u32,
+    threads: u32,
+) -> Done
+    requires transfers { (4 ≤ transfers) × (transfers ≤ 1048576) }
+{
+    let times = u64::from(transfers / 4);
+    match through {
+        Through::Rendezvous => sent_by(rt, Kind::Rendezvous, transfers, times, threads),
+        Through::Buffered => sent_by(rt, Kind::Buffered(64), transfers, times, threads),
+        Through::Crossbeam(kept) => exchanged_by(rt, kept, times, threads),
+        Through::Ring(slots) => moved_by(rt, slots, times, threads),
+    }
+}
 
 /// All cases by so many threads.
 fn bench_by<R: Threads + Wait + Sync + Clock + Print + Eprint + AllocGlobal>(
@@ -37,47 +73,19 @@ fn bench_by<R: Threads + Wait + Sync + Clock + Print + Eprint + AllocGlobal>(
 ) -> io::Result<()>
     requires transfers { (4 ≤ transfers) × (transfers ≤ 1048576) }
 {
-    let times = transfers / 4;
-    let unit = " transfers";
-    let done = sent_by(rt, Kind::Rendezvous, transfers, times, threads);
-    tell(rt, "rendezvous", threads, done, unit)?;
-    let done = sent_by(rt, Kind::Buffered(64), transfers, times, threads);
-    tell(rt, "buffered", threads, done, unit)?;
-    tell(
-        rt,
-        "crossbeam 64",
-        threads,
-        exchanged_by(rt, 64, times, threads),
-        unit,
-    )?;
-    tell(
-        rt,
-        "ring 64",
-        threads,
-        moved_by(rt, 64, times, threads),
-        unit,
-    )?;
-    tell(
-        rt,
-        "crossbeam 1024",
-        threads,
-        exchanged_by(rt, 1024, times, threads),
-        unit,
-    )?;
-    tell(
-        rt,
-        "ring 1024",
-        threads,
-        moved_by(rt, 1024, times, threads),
-        unit,
-    )
+    for (name, through) in CASES {
+        let done = moved(rt, *through, transfers, threads);
+        tell(rt, name, threads, done, " transfers")?;
+    }
+    Ok(())
 }
 
 /// All cases.
-pub(crate) fn bench<R: Env + Threads + Wait + Sync + Clock + Print + Eprint + AllocGlobal>(
+pub(crate) fn bench<R: Threads + Wait + Sync + Clock + Print + Eprint + AllocGlobal>(
     rt: &R,
+    words: &Words,
 ) -> io::Result<()> {
-    let transfers = small_at(rt, 2, 1000)?.clamp(4, 1048576);
+    let transfers = small(words.second).unwrap_or(1000).clamp(4, 1048576);
     for threads in [1u32, 2, 4] {
         bench_by(rt, transfers, threads)?;
     }

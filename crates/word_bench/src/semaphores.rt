@@ -16,16 +16,36 @@ ghost use Rattle.floor_tests.specs.KnownPermits.{IsNumber};
 pub(crate) mod gates_at_once;
 mod locks;
 
-use crate::told::{no_memory, now, since, small_at, tell};
-use floor_tests::permit_calls::tally_of_four;
+use crate::told::{Line, Words, no_memory, now, small, tell};
+use floor_tests::permit_calls::{Tally, tally_of_four};
 use gates_at_once::held_by_four;
 use locks::locked_by_four;
 use permits::Permits;
 use std::io;
-use std::rt::Env;
 use std::sync::Wait;
 use std::thread::Threads;
 use std::time::Clock;
+
+/// Says how many acquires there were, and how many of them held a permit.
+fn tell_tally<R: Print + Eprint>(
+    rt: &R,
+    line: &mut Line,
+    permits: u32,
+    threads: u32,
+    tally: Tally,
+) -> io::Result<()> {
+    line.add(permits);
+    line.add(" permits, ");
+    line.add(threads);
+    line.add(" at once: ");
+    line.add(tally.held.saturating_add(tally.given_up));
+    line.add(" acquires");
+    line.say(rt)?;
+    line.add(", ");
+    line.add(tally.held);
+    line.add(" of them held,");
+    line.say_time(rt)
+}
 
 /// A semaphore of so many permits, by so many threads.
 fn bench_permits<R: Threads + Wait + Sync + Clock + Print + Eprint + AllocGlobal>(
@@ -41,14 +61,8 @@ fn bench_permits<R: Threads + Wait + Sync + Clock + Print + Eprint + AllocGlobal
     let Ok((tally, _free)) = tally_of_four(rt, permits, times, threads, false) else {
         return Err(no_memory());
     };
-    let spent = since(rt, begun)?;
-    let done = tally.held.saturating_add(tally.given_up);
-    let n = permits.n;
-    let held = tally.held;
-    println!(rt; "{n} permits, {threads} at once: {done} acquires")?;
-    eprintln!(rt;
-        "{n} permits, {threads} at once: {done} acquires, {held} of them held, in {spent:?}"
-    )
+    let mut line = Line::since(rt, begun);
+    tell_tally(rt, &mut line, permits.n, threads, tally)
 }
 
 /// What is measured.
@@ -67,27 +81,29 @@ fn bench_one<R: Threads + Wait + Sync + Clock + Print + Eprint + AllocGlobal>(
     times: u32,
     threads: u32,
 ) -> io::Result<()> {
+    let turns = u64::from(times);
     match what {
         What::OnePermit => bench_permits(rt, &Permits { c: 0, n: 1 }, times, threads),
         What::TwoPermits => bench_permits(rt, &Permits { c: 0, n: 2 }, times, threads),
         What::Gates => {
-            let done = held_by_four(rt, 1, times, threads);
+            let done = held_by_four(rt, 1, turns, threads);
             tell(rt, "gate of 1", threads, done, " acquires")?;
-            let done = held_by_four(rt, 2, times, threads);
+            let done = held_by_four(rt, 2, turns, threads);
             tell(rt, "gate of 2", threads, done, " acquires")
         }
         What::Lock => {
-            let done = locked_by_four(rt, times, threads);
+            let done = locked_by_four(rt, turns, threads);
             tell(rt, "lock", threads, done, " times")
         }
     }
 }
 
 /// All cases.
-pub(crate) fn bench<R: Env + Threads + Wait + Sync + Clock + Print + Eprint + AllocGlobal>(
+pub(crate) fn bench<R: Threads + Wait + Sync + Clock + Print + Eprint + AllocGlobal>(
     rt: &R,
+    words: &Words,
 ) -> io::Result<()> {
-    let times = small_at(rt, 2, 1000)?.clamp(1, 131000);
+    let times = small(words.second).unwrap_or(1000).clamp(1, 131000);
     for what in [What::OnePermit, What::TwoPermits, What::Gates, What::Lock] {
         for threads in [1u32, 2, 4] {
             bench_one(rt, what, times, threads)?;

@@ -13,7 +13,8 @@ ghost use Rattle.gates.specs.Passes.{IsOf as IsOfGate};
 ghost use Rattle.channel_model.specs.Answers.{IsReady};
 ghost use Rattle.word_bench.specs.Rings.{IsPass};
 
-use crate::told::{no_memory, now, since, small_at};
+use crate::shares::{Worker, by_two, value_of};
+use crate::told::{Line, Words, no_memory, now, small};
 use channel_model::{Kind, WaitState};
 use co_base::{Memory, WaitId};
 use gates::{Gate, GatePass, TryAcquired};
@@ -23,7 +24,6 @@ use ring_channel::{Ring, RingPass};
 use std::alloc::Global;
 use std::hint::spin_loop;
 use std::io;
-use std::rt::Env;
 use std::sync::Wait;
 use std::thread::{Threads, join, sleep, yield_now};
 use std::time::{Clock, Duration};
@@ -218,8 +218,7 @@ fn is_moved<R: Wait>(
     requires of { IsOf hub.now pass.old }
     ensures of { IsOf hub.now pass.new }
 {
-    let (sends, asleep) = how;
-    match (sends, asleep) {
+    match how {
         (true, true) => is_sent(rt, hub, bells, pass, number),
         (true, false) => is_sent_at_once(rt, hub, pass, number),
         (false, true) => is_received(rt, hub, bells, pass, number),
@@ -227,29 +226,50 @@ fn is_moved<R: Wait>(
     }
 }
 
-/// So many numbers are sent on the first channel, and each is awaited back on the second; or each is awaited first, and sent back. Answers
-/// how many went so.
-fn serve<R: Wait>(
-    rt: &R,
-    bells: (&Bells, &Bells),
-    to: &ParcelHub<u32>,
-    mut to_pass: ParcelPass<u32>,
-    fro: &ParcelHub<u32>,
-    mut fro_pass: ParcelPass<u32>,
-    rounds: u32,
-    how: (bool, bool),
-) -> u32
-    requires to { IsOf to.now to_pass }
-    requires fro { IsOf fro.now fro_pass }
-{
-    let (sends, asleep) = how;
-    let mut came = 0u32;
-    for number in 0..rounds {
-        let done = is_moved(rt, to, bells.0, &mut to_pass, number, (sends, asleep))
-            && is_moved(rt, fro, bells.1, &mut fro_pass, number, (!sends, asleep));
-        came = came.saturating_add(u32::from(done));
+/// Two channels, and what bells those have who sleep at each.
+#[derive(Clone, Copy)]
+struct Channels<'a> {
+    bells: (&'a Bells, &'a Bells),
+    to: &'a ParcelHub<u32>,
+    fro: &'a ParcelHub<u32>,
+}
+
+/// One that in each turn sends a number on the first channel and awaits it back on the second, or awaits it first and sends it back.
+#[derive(Drop)]
+struct Server<'a, R> {
+    rt: &'a R,
+    to: ParcelPass<u32>,
+    fro: ParcelPass<u32>,
+    sends: bool,
+    asleep: bool,
+}
+
+impl<'a, R: Wait + Sync> Worker for Server<'a, R> {
+    type Floor = Channels<'a>;
+
+    ghost can_work = { λ channels one. IsOf channels.to.now one.to × IsOf channels.fro.now one.fro };
+
+    /// One where the number went so.
+    fn turn(&mut self, channels: &Channels<'a>, number: u64) -> Option<u64> {
+        let (rt, number) = (self.rt, value_of(number));
+        let (there, back) = ((self.sends, self.asleep), (!self.sends, self.asleep));
+        let done = is_moved(
+            rt,
+            channels.to,
+            channels.bells.0,
+            &mut self.to,
+            number,
+            there,
+        ) && is_moved(
+            rt,
+            channels.fro,
+            channels.bells.1,
+            &mut self.fro,
+            number,
+            back,
+        );
+        Some(u64::from(done))
     }
-    came
 }
 
 /// A channel that keeps one number, with its two passes.
@@ -269,49 +289,54 @@ fn new_channel(
 /// So many rounds of two threads, of which one has the first passes. Answers how many numbers came back and had come.
 fn to_and_fro<R: Threads + Wait + Sync>(
     rt: &R,
-    bells: (&Bells, &Bells),
-    to: &ParcelHub<u32>,
-    to_passes: (ParcelPass<u32>, ParcelPass<u32>),
-    fro: &ParcelHub<u32>,
-    fro_passes: (ParcelPass<u32>, ParcelPass<u32>),
+    channels: Channels<'_>,
+    to: (ParcelPass<u32>, ParcelPass<u32>),
+    fro: (ParcelPass<u32>, ParcelPass<u32>),
     rounds: u32,
     asleep: bool,
-) -> (u32, u32)
-    requires a { IsOf to.now to_passes.0 }
-    requires b { IsOf to.now to_passes.1 }
-    requires c { IsOf fro.now fro_passes.0 }
-    requires d { IsOf fro.now fro_passes.1 }
+) -> (u64, u64)
+    requires a { IsOf channels.to.now to.0 }
+    requires b { IsOf channels.to.now to.1 }
+    requires c { IsOf channels.fro.now fro.0 }
+    requires d { IsOf channels.fro.now fro.1 }
 {
-    let ((a, b), (c, d)) = (to_passes, fro_passes);
-    join(
+    let first = Server {
         rt,
-        || -> u32
-            requires to { IsOf to.now a }
-            requires fro { IsOf fro.now c }
-        { serve(rt, bells, to, a, fro, c, rounds, (true, asleep)) },
-        || -> u32
-            requires to { IsOf to.now b }
-            requires fro { IsOf fro.now d }
-        { serve(rt, bells, to, b, fro, d, rounds, (false, asleep)) },
-    )
+        to: to.0,
+        fro: fro.0,
+        sends: true,
+        asleep,
+    };
+    let other = Server {
+        rt,
+        to: to.1,
+        fro: fro.1,
+        sends: false,
+        asleep,
+    };
+    let times = (u64::from(rounds), u64::from(rounds));
+    let (back, there) = by_two(rt, &channels, (first, other), times, true);
+    (back.1, there.1)
 }
 
-/// The same, with a second channel of its own.
+/// The same over two channels of their own.
 fn rounds_over<R: Threads + Wait + Sync>(
     rt: &R,
     alloc: Global,
     bells: (&Bells, &Bells),
-    to: &ParcelHub<u32>,
-    to_passes: (ParcelPass<u32>, ParcelPass<u32>),
     rounds: u32,
     asleep: bool,
-) -> Result<(u32, u32), Memory>
+) -> Result<(u64, u64), Memory>
     requires rounds { (1 ≤ rounds) × (rounds ≤ 500000) }
-    requires a { IsOf to.now to_passes.0 }
-    requires b { IsOf to.now to_passes.1 }
 {
+    let (to, a, b) = new_channel(alloc, rounds)?;
     let (fro, c, d) = new_channel(alloc, rounds)?;
-    Ok(to_and_fro(rt, bells, to, to_passes, &fro, (c, d), rounds, asleep))
+    let channels = Channels {
+        bells,
+        to: &to,
+        fro: &fro,
+    };
+    Ok(to_and_fro(rt, channels, (a, b), (c, d), rounds, asleep))
 }
 
 // ---- what is written
@@ -328,23 +353,14 @@ fn bench_waits<R: Threads + Wait + Sync + Clock + Print + Eprint + AllocGlobal>(
     let Ok(gate) = gate_wait(rt, rt.alloc()) else {
         return Err(no_memory());
     };
-    let spent = since(rt, begun)?;
-    println!(rt; "waits of a second: parcel {parcel}, ring {ring}, gate {gate}")?;
-    eprintln!(rt; "waits of a second: parcel {parcel}, ring {ring}, gate {gate}, in {spent:?}")
-}
-
-/// So many rounds over two channels, of which each has bells of its own.
-fn done_over<R: Threads + Wait + Sync>(
-    rt: &R,
-    alloc: Global,
-    bells: (&Bells, &Bells),
-    rounds: u32,
-    asleep: bool,
-) -> Result<(u32, u32), Memory>
-    requires rounds { (1 ≤ rounds) × (rounds ≤ 500000) }
-{
-    let (to, a, b) = new_channel(alloc, rounds)?;
-    rounds_over(rt, alloc, bells, &to, (a, b), rounds, asleep)
+    let mut line = Line::since(rt, begun);
+    line.add("waits of a second: parcel ");
+    line.add(parcel);
+    line.add(", ring ");
+    line.add(ring);
+    line.add(", gate ");
+    line.add(gate);
+    line.tell(rt, ",")
 }
 
 fn bench_rounds<R: Threads + Wait + Sync + Clock + Print + Eprint + AllocGlobal>(
@@ -357,12 +373,18 @@ fn bench_rounds<R: Threads + Wait + Sync + Clock + Print + Eprint + AllocGlobal>
     requires rounds { (1 ≤ rounds) × (rounds ≤ 500000) }
 {
     let begun = now(rt);
-    let Ok((back, there)) = done_over(rt, rt.alloc(), bells, rounds, asleep) else {
+    let Ok((back, there)) = rounds_over(rt, rt.alloc(), bells, rounds, asleep) else {
         return Err(no_memory());
     };
-    let spent = since(rt, begun)?;
-    println!(rt; "to and fro, {name}: {there} there, {back} back")?;
-    eprintln!(rt; "to and fro, {name}: {there} there, {back} back, in {spent:?}")
+    let mut line = Line::since(rt, begun);
+    line.add("to and fro, ");
+    line.add(name);
+    line.add(": ");
+    line.add(there);
+    line.add(" there, ");
+    line.add(back);
+    line.add(" back");
+    line.tell(rt, ",")
 }
 
 /// All that is measured, with these bells.
@@ -381,10 +403,11 @@ fn bench_with<R: Threads + Wait + Sync + Clock + Print + Eprint + AllocGlobal>(
     bench_rounds(rt, bells, "spinning", rounds, false)
 }
 
-pub(crate) fn bench<R: Env + Threads + Wait + Sync + Clock + Print + Eprint + AllocGlobal>(
+pub(crate) fn bench<R: Threads + Wait + Sync + Clock + Print + Eprint + AllocGlobal>(
     rt: &R,
+    words: &Words,
 ) -> io::Result<()> {
-    let rounds = small_at(rt, 2, 10_000)?.min(500_000);
+    let rounds = small(words.second).unwrap_or(10_000).min(500_000);
     let Ok(one) = Bells::new(rt.alloc()) else {
         return Err(no_memory());
     };

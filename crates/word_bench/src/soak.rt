@@ -6,14 +6,15 @@
 //! One thread sends the even numbers below NUMBERS and one the odd ones, each in their order, and two receive until the ring is over. No
 //! memory is taken meanwhile. What was received is told by how many there were, by their sum, and by the sum of a mark of each, all as 64
 //! bits; and each receiver looks that what it has of one sender comes in order.
+ghost use Rattle.std.specs.Prelude.{◌≡◌};
 ghost use Rattle.ring_channel.specs.Passes.{IsOf};
 
-use crate::told::{no_memory, now, number_at, since};
+use crate::shares::{Worker, by_two};
+use crate::told::{Line, Words, no_memory, now};
 use ring_channel::{Ring, RingGot, RingPass, RingSent};
 use std::alloc::Global;
 use std::hint::spin_loop;
 use std::io;
-use std::rt::Env;
 use std::sync::Wait;
 use std::thread::{Threads, join, yield_now};
 use std::time::Clock;
@@ -106,49 +107,57 @@ fn receive_one(ring: &Ring<u64>, pass: &mut RingPass<u64>) -> Option<u64>
     None
 }
 
-/// Sends each second number below this one, from the first on, and tells what was sent.
-fn send_from(
-    ring: &Ring<u64>,
-    mut pass: RingPass<u64>,
+/// One that sends each second number, from the first on.
+#[derive(Drop)]
+struct Sender {
+    pass: RingPass<u64>,
     first: u64,
-    below: u64,
-) -> (RingPass<u64>, Numbers)
-    requires of { IsOf ring.now pass }
-    ensures of { IsOf ring.now result.0 }
-{
-    let mut sent = NONE;
-    for half in 0..below / 2 {
-        let number = half.wrapping_mul(2).wrapping_add(first);
-        if send_one(ring, &mut pass, number) {
-            sent = with(sent, number);
-        }
-    }
-    (pass, sent)
+    sent: Numbers,
 }
 
-/// Receives until the ring is over. Tells what came, and whether the even and the odd numbers each came in order.
-fn receive_all(ring: &Ring<u64>, pass: &mut RingPass<u64>) -> (Numbers, bool)
-    requires of { IsOf ring.now pass.old }
-{
-    let mut received = NONE;
-    let mut rises = true;
-    let mut next = [0u64, 0u64];
-    for _ in 0..u64::MAX {
-        let Some(number) = receive_one(ring, pass) else {
-            return (received, rises);
-        };
-        let [even, odd] = next;
-        let due = if number % 2 == 0 { even } else { odd };
-        rises = rises && number >= due;
-        let then = number.wrapping_add(1);
-        next = if number % 2 == 0 {
-            [then, odd]
-        } else {
-            [even, then]
-        };
-        received = with(received, number);
+impl Worker for Sender {
+    type Floor = Ring<u64>;
+
+    ghost can_work = { λ ring one. IsOf ring one.pass };
+
+    fn turn(&mut self, ring: &Ring<u64>, half: u64) -> Option<u64> {
+        let number = half.wrapping_mul(2).wrapping_add(self.first);
+        if send_one(ring, &mut self.pass, number) {
+            self.sent = with(self.sent, number);
+        }
+        Some(1)
     }
-    (received, rises)
+}
+
+/// One that receives until the ring is over: what came, and whether the even and the odd numbers each came in order.
+#[derive(Drop)]
+struct Receiver {
+    pass: RingPass<u64>,
+    received: Numbers,
+    /// The least even number that may come now, and the least odd one.
+    next: [u64; 2],
+    rises: bool,
+}
+
+impl Worker for Receiver {
+    type Floor = Ring<u64>;
+
+    ghost can_work = { λ ring one. IsOf ring one.pass };
+
+    fn turn(&mut self, ring: &Ring<u64>, _number: u64) -> Option<u64> {
+        let number = receive_one(ring, &mut self.pass)?;
+        let [even, odd] = self.next;
+        let then = number.wrapping_add(1);
+        let (due, next) = if number % 2 == 0 {
+            (even, [then, odd])
+        } else {
+            (odd, [even, then])
+        };
+        self.rises = self.rises && number >= due;
+        self.next = next;
+        self.received = with(self.received, number);
+        Some(1)
+    }
 }
 
 /// Two threads send, and then the ring is closed.
@@ -162,39 +171,53 @@ fn send_by_two<R: Threads + Wait + Sync>(
     requires a { IsOf ring.now a }
     requires b { IsOf ring.now b }
 {
-    let ((mut a, even), (_b, odd)) = join(
-        rt,
-        || send_from(ring, a, 0, below),
-        || send_from(ring, b, 1, below),
-    );
-    ring.close(&mut a);
-    both(even, odd)
+    let even = Sender {
+        pass: a,
+        first: 0,
+        sent: NONE,
+    };
+    let odd = Sender {
+        pass: b,
+        first: 1,
+        sent: NONE,
+    };
+    let (even, odd) = by_two(rt, ring, (even, odd), (below / 2, below / 2), true);
+    let (even, odd) = (even.0, odd.0);
+    let mut last = even.pass;
+    ring.close(&mut last);
+    both(even.sent, odd.sent)
+}
+
+fn new_receiver(pass: RingPass<u64>) -> Receiver
+    ensures { result.pass ≡ pass }
+{
+    Receiver {
+        pass,
+        received: NONE,
+        next: [0, 0],
+        rises: true,
+    }
 }
 
 /// Two threads receive.
 fn receive_by_two<R: Threads + Wait + Sync>(
     rt: &R,
     ring: &Ring<u64>,
-    mut c: RingPass<u64>,
-    mut d: RingPass<u64>,
+    c: RingPass<u64>,
+    d: RingPass<u64>,
 ) -> (Numbers, bool)
     requires c { IsOf ring.now c }
     requires d { IsOf ring.now d }
 {
-    let ((first, one), (second, other)) = join(
-        rt,
-        || receive_all(ring, &mut c),
-        || receive_all(ring, &mut d),
-    );
-    (both(first, second), one && other)
+    let two = (new_receiver(c), new_receiver(d));
+    let (first, other) = by_two(rt, ring, two, (u64::MAX, u64::MAX), true);
+    let (first, other) = (first.0, other.0);
+    let received = both(first.received, other.received);
+    (received, first.rises && other.rises)
 }
 
-/// What was sent and what was received of the numbers below this one, and whether they came in order.
-fn soak<R: Threads + Wait + Sync>(
-    rt: &R,
-    alloc: Global,
-    below: u64,
-) -> Option<(Numbers, Numbers, bool)> {
+/// How many of the numbers below this one were sent, and how many received; and whether each was received once, and in order.
+fn soak<R: Threads + Wait + Sync>(rt: &R, alloc: Global, below: u64) -> Option<(u64, u64, bool)> {
     let Ok((ring, mut a)) = Ring::<u64>::new(alloc, SLOTS) else {
         return None;
     };
@@ -213,20 +236,26 @@ fn soak<R: Threads + Wait + Sync>(
             requires d { IsOf ring.now d }
         { receive_by_two(rt, ring, c, d) },
     );
-    Some((sent, received, rises))
+    let once = rises && sent == received;
+    Some((sent.count, received.count, once))
 }
 
-pub(crate) fn bench<R: Env + Threads + Wait + Sync + Clock + Print + Eprint + AllocGlobal>(
+pub(crate) fn bench<R: Threads + Wait + Sync + Clock + Print + Eprint + AllocGlobal>(
     rt: &R,
+    words: &Words,
 ) -> io::Result<()> {
-    let numbers = number_at(rt, 2, 10_000_000)?.clamp(2, 1_000_000_000_000);
+    let numbers = words.second.unwrap_or(10_000_000);
+    let below = numbers.clamp(2, 1_000_000_000_000);
     let begun = now(rt);
-    let Some((sent, received, rises)) = soak(rt, rt.alloc(), numbers) else {
+    let Some((sent, received, once)) = soak(rt, rt.alloc(), below) else {
         return Err(no_memory());
     };
-    let spent = since(rt, begun)?;
-    let once = rises && sent == received;
-    let (out, back) = (sent.count, received.count);
-    println!(rt; "soak: {out} sent, {back} received, each once and in order: {once}")?;
-    eprintln!(rt; "soak: {out} sent, {back} received, each once and in order: {once}, in {spent:?}")
+    let mut line = Line::since(rt, begun);
+    line.add("soak: ");
+    line.add(sent);
+    line.add(" sent, ");
+    line.add(received);
+    line.add(" received, each once and in order: ");
+    line.add(once);
+    line.tell(rt, ",")
 }

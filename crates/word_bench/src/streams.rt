@@ -4,7 +4,7 @@
 //!     word_bench streams [ELEMENTS]     by default 1000, at most 1048576
 //!
 //! Both channels keep 64. A list is sent, and collected.
-use crate::told::{no_memory, now, since, small_at};
+use crate::told::{Line, Words, no_memory, now, small};
 use cell_words::Hub;
 use channel_model::Kind;
 use future_bridge::{Drive, HostDrive, ReceiveStream, SendList, SendSink};
@@ -16,7 +16,6 @@ use futures::{SinkExt, StreamExt};
 use std::alloc::AllocGlobal;
 use std::io;
 use std::random::RandomSource;
-use std::rt::Env;
 use std::sync::Wait;
 use std::time::{Clock, Instant};
 
@@ -72,7 +71,7 @@ fn by_the_kit<R: Wait + RandomSource + AllocGlobal>(rt: &R, below: u32) -> Optio
 }
 
 /// Writes how many came, and in which time.
-fn tell<R: Clock + Print + Eprint>(
+fn tell<R: Clock + Print + Eprint + AllocGlobal>(
     rt: &R,
     name: &str,
     begun: Option<Instant>,
@@ -81,9 +80,12 @@ fn tell<R: Clock + Print + Eprint>(
     let Some(came) = came else {
         return Err(no_memory());
     };
-    let spent = since(rt, begun)?;
-    println!(rt; "{name}: {came} elements")?;
-    eprintln!(rt; "{name}: {came} elements in {spent:?}")
+    let mut line = Line::since(rt, begun);
+    line.add(name);
+    line.add(": ");
+    line.add(came);
+    line.add(" elements");
+    line.tell(rt, "")
 }
 
 /// So many elements over a channel over words.
@@ -99,10 +101,11 @@ fn bench_bridged<R: Wait + Clock + Print + Eprint + RandomSource + AllocGlobal>(
     tell(rt, "bridge", begun, came)
 }
 
-pub(crate) fn bench<R: Env + Wait + Clock + Print + Eprint + RandomSource + AllocGlobal>(
+pub(crate) fn bench<R: Wait + Clock + Print + Eprint + RandomSource + AllocGlobal>(
     rt: &R,
+    words: &Words,
 ) -> io::Result<()> {
-    let elements = small_at(rt, 2, 1_000)?.clamp(1, 1_048_576);
+    let elements = small(words.second).unwrap_or(1_000).clamp(1, 1_048_576);
     bench_bridged(rt, elements)?;
     let begun = now(rt);
     let came = by_the_kit(rt, elements);

@@ -89,24 +89,31 @@ fn admit_first(hub: &Hub, pass: &mut Pass, who: Tag, place: Place)
     admit(hub, pass, who, end);
 }
 
-/// Sends: whether the element was received or kept.
-pub(crate) fn send(hub: &Hub, pass: &mut Pass, who: Tag, value: Value) -> bool
+/// Sends. Who sends counts no transfer; None: the element was not received, nor kept.
+pub(crate) fn send(hub: &Hub, pass: &mut Pass, who: Tag, value: Value) -> Option<u64>
     requires channels { CarryElements hub.now }
     requires own { IsOwn hub.now pass.old who }
     ensures own { IsOwn hub.now pass.new who }
 {
     match offer(hub, pass, who, 0, value) {
-        Offered::Handed(_, _) | Offered::Put(_) => true,
+        Offered::Handed(_, _) | Offered::Put(_) => Some(0),
         Offered::Held(place) => {
             admit_first(hub, pass, who, place);
-            matches!(await_end(hub, pass, who, place), Some(Settled::Sent(_)))
+            sent(await_end(hub, pass, who, place))
         }
-        Offered::Closed(_) | Offered::Spent => false,
+        Offered::Closed(_) | Offered::Spent => None,
     }
 }
 
-/// Receives: whether an element came.
-pub(crate) fn receive_next(hub: &Hub, pass: &mut Pass, who: Tag) -> bool
+fn sent(ended: Option<Settled>) -> Option<u64> {
+    match ended {
+        Some(Settled::Sent(_)) => Some(0),
+        _ => None,
+    }
+}
+
+/// Receives. Who receives counts the transfer; None: no element came.
+pub(crate) fn receive_next(hub: &Hub, pass: &mut Pass, who: Tag) -> Option<u64>
     requires channels { CarryElements hub.now }
     requires own { IsOwn hub.now pass.old who }
     ensures own { IsOwn hub.now pass.new who }
@@ -115,12 +122,16 @@ pub(crate) fn receive_next(hub: &Hub, pass: &mut Pass, who: Tag) -> bool
         Got::Taken(_, _, _) => {
             let end = mark(hub, pass, who);
             admit(hub, pass, who, end);
-            true
+            Some(1)
         }
-        Got::Waiting(place) => {
-            let ended = await_end(hub, pass, who, place);
-            matches!(ended, Some(Settled::Value(_, _)))
-        }
-        Got::Closed(_) | Got::Spent => false,
+        Got::Waiting(place) => came(await_end(hub, pass, who, place)),
+        Got::Closed(_) | Got::Spent => None,
+    }
+}
+
+fn came(ended: Option<Settled>) -> Option<u64> {
+    match ended {
+        Some(Settled::Value(_, _)) => Some(1),
+        _ => None,
     }
 }

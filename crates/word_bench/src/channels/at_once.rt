@@ -1,4 +1,4 @@
-//! Four coroutines, at work on one, two or four threads at once.
+//! Four coroutines on two channels of a hub, at work on one, two or four threads at once.
 ghost use Rattle.std.specs.Prelude.{◌≡◌, ◌≤◌, false, [], ◌∷◌};
 ghost use Rattle.channel_model.specs.Channels.{is_signal};
 ghost use Rattle.cell_words.specs.Hubs.{IsOf, IsOwn, GivesTags};
@@ -7,7 +7,7 @@ ghost use Rattle.word_bench.specs.Channels.{CarryElements};
 use crate::channels::apart::{receive_next, send};
 use crate::channels::on_passes::{new_hub, offer, receive};
 use crate::channels::waits::select;
-use crate::shares::{by_four, sum};
+use crate::shares::{Worker, count, done_by_four, value_of};
 use crate::told::{Done, now};
 use cell_words::{Hub, Pass};
 use channel_model::{Got, Kind, Offered};
@@ -17,41 +17,25 @@ use std::sync::Wait;
 use std::thread::Threads;
 use std::time::Clock;
 
-/// What a coroutine does in each turn.
+/// What is done in each turn.
 #[derive(Clone, Copy)]
 pub(crate) enum Work {
     /// An offer and a receive.
     Both,
-    /// Two sends, each of which waits for its receiver or for room.
+    /// A send that waits for its receiver or for room.
     Sends,
-    /// Two receives, each of which waits for its element.
+    /// A receive that waits for its element.
     Receives,
     /// A select that receives from both channels, and an offer on one of them.
     Selects,
 }
 
-/// The passes of the tags 1 to 4.
+/// A coroutine, and what it does.
 #[derive(Drop)]
-struct Four {
-    a: Pass,
-    b: Pass,
-    c: Pass,
-    d: Pass,
-}
-
-fn four_passes(hub: &Hub, main: &mut Pass) -> Four
-    requires of { IsOf hub.now main.old }
-    requires gives { GivesTags (0 ∷ []) main.old }
-    ensures a { IsOwn hub.now result.a 1 }
-    ensures b { IsOwn hub.now result.b 2 }
-    ensures c { IsOwn hub.now result.c 3 }
-    ensures d { IsOwn hub.now result.d 4 }
-{
-    let a = hub.split(main, 1);
-    let b = hub.split(main, 2);
-    let c = hub.split(main, 3);
-    let d = hub.split(main, 4);
-    Four { a, b, c, d }
+struct Coroutine {
+    pass: Pass,
+    who: Tag,
+    work: Work,
 }
 
 fn offers(hub: &Hub, pass: &mut Pass, who: Tag, value: Value) -> bool
@@ -74,126 +58,102 @@ fn offers_on_one(hub: &Hub, pass: &mut Pass, who: Tag, value: Value) -> bool
     matches!(offer(hub, pass, who, 1, value), Offered::Handed(_, _))
 }
 
-fn receives(hub: &Hub, pass: &mut Pass, who: Tag) -> bool
+fn offers_and_receives(hub: &Hub, pass: &mut Pass, who: Tag, value: Value) -> Option<u64>
     requires channels { CarryElements hub.now }
     requires own { IsOwn hub.now pass.old who }
     ensures own { IsOwn hub.now pass.new who }
 {
-    matches!(receive(hub, pass, who), Got::Taken(_, _, _))
+    let handed = offers(hub, pass, who, value);
+    let taken = matches!(receive(hub, pass, who), Got::Taken(_, _, _));
+    count(handed, taken)
 }
 
-/// One turn: whether its calls made a transfer each.
-fn turn(hub: &Hub, pass: &mut Pass, who: Tag, work: Work, value: Value) -> (bool, bool)
+fn selects_and_offers(hub: &Hub, pass: &mut Pass, who: Tag, value: Value) -> Option<u64>
     requires channels { CarryElements hub.now }
     requires own { IsOwn hub.now pass.old who }
     ensures own { IsOwn hub.now pass.new who }
 {
-    match work {
-        Work::Both => {
-            let handed = offers(hub, pass, who, value);
-            (handed, receives(hub, pass, who))
-        }
-        Work::Sends => {
-            let sent = send(hub, pass, who, value);
-            (sent, send(hub, pass, who, value))
-        }
-        Work::Receives => {
-            let came = receive_next(hub, pass, who);
-            (came, receive_next(hub, pass, who))
-        }
-        Work::Selects => {
-            let taken = select(hub, pass, who);
-            (taken, offers_on_one(hub, pass, who, value))
+    let taken = select(hub, pass, who);
+    let handed = offers_on_one(hub, pass, who, value);
+    count(taken, handed)
+}
+
+impl Worker for Coroutine {
+    type Floor = Hub;
+
+    ghost can_work = { λ hub one. CarryElements hub × IsOwn hub one.pass one.who };
+
+    /// How many transfers the turn counts. One whose wait was given up makes no more: its partner will not come.
+    fn turn(&mut self, hub: &Hub, number: u64) -> Option<u64> {
+        let (who, value) = (self.who, value_of(number));
+        match self.work {
+            Work::Both => offers_and_receives(hub, &mut self.pass, who, value),
+            Work::Sends => send(hub, &mut self.pass, who, value),
+            Work::Receives => receive_next(hub, &mut self.pass, who),
+            Work::Selects => selects_and_offers(hub, &mut self.pass, who, value),
         }
     }
 }
 
-/// How many transfers a turn counts whose calls made these. The receiver counts them if it waits for each.
-fn counted(work: Work, first: bool, second: bool) -> u32 {
-    match (work, first, second) {
-        (Work::Sends, _, _) => 0,
-        (_, true, true) => 2,
-        (_, true, false) | (_, false, true) => 1,
-        (_, false, false) => 0,
-    }
-}
-
-/// Whether a wait was given up in a turn whose calls made these transfers.
-fn gave_up(work: Work, first: bool, second: bool) -> bool {
-    match work {
-        Work::Sends | Work::Receives => !first || !second,
-        Work::Both | Work::Selects => false,
-    }
-}
-
-/// So many turns, or fewer if a wait is given up: its partner will not come, and a wait more would be as long. How many transfers it
-/// counts: those of its calls that found a receiver, or an element. One that only sends counts none.
-fn work_on(hub: &Hub, pass: &mut Pass, who: Tag, work: Work, times: u32) -> u32
-    requires channels { CarryElements hub.now }
-    requires own { IsOwn hub.now pass.old who }
+fn new_coroutine(pass: Pass, who: Tag, work: Work) -> Coroutine
+    ensures { (result.pass ≡ pass) × (result.who ≡ who) }
 {
-    let mut met = 0u32;
-    for i in 0..times {
-        let (first, second) = turn(hub, pass, who, work, i);
-        met = met.saturating_add(counted(work, first, second));
-        if gave_up(work, first, second) {
-            break;
-        }
-    }
-    met
+    Coroutine { pass, who, work }
 }
 
-/// The work of four, of whom two do the first work and two the other: how many transfers all count.
-fn work_by<R: Threads + Wait + Sync>(
-    rt: &R,
+/// Four coroutines, of whom two do the first work and two the other.
+fn four_of(
     hub: &Hub,
-    four: Four,
+    main: &mut Pass,
     work: (Work, Work),
-    times: u32,
-    threads: u32,
-) -> u32
-    requires channels { CarryElements hub.now }
-    requires a { IsOwn hub.now four.a 1 }
-    requires b { IsOwn hub.now four.b 2 }
-    requires c { IsOwn hub.now four.c 3 }
-    requires d { IsOwn hub.now four.d 4 }
+) -> ((Coroutine, Coroutine), (Coroutine, Coroutine))
+    requires of { IsOf hub.now main.old }
+    requires gives { GivesTags (0 ∷ []) main.old }
+    ensures a { IsOwn hub.now result.0.0.pass result.0.0.who }
+    ensures b { IsOwn hub.now result.0.1.pass result.0.1.who }
+    ensures c { IsOwn hub.now result.1.0.pass result.1.0.who }
+    ensures d { IsOwn hub.now result.1.1.pass result.1.1.who }
 {
-    let Four {
-        mut a,
-        mut b,
-        mut c,
-        mut d,
-    } = four;
-    let (first, other) = work;
-    let left = (
-        || work_on(hub, &mut a, 1, first, times),
-        || work_on(hub, &mut b, 2, first, times),
-    );
-    let right = (
-        || work_on(hub, &mut c, 3, other, times),
-        || work_on(hub, &mut d, 4, other, times),
-    );
-    sum(by_four(rt, threads, left, right))
+    let a = hub.split(main, 1);
+    let b = hub.split(main, 2);
+    let c = hub.split(main, 3);
+    let d = hub.split(main, 4);
+    let left = (new_coroutine(a, 1, work.0), new_coroutine(b, 2, work.0));
+    (
+        left,
+        (new_coroutine(c, 3, work.1), new_coroutine(d, 4, work.1)),
+    )
 }
 
-/// How many transfers four coroutines count in so many turns each, on two channels of this kind with so many places each, by so many
-/// threads, which are none, one, two or four.
+/// The kind of a channel that keeps so many elements, or all.
+pub(crate) fn kind_that_keeps(kept: Option<u32>) -> Kind
+    ensures { is_signal result ≡ false }
+{
+    match kept {
+        Some(0) => Kind::Rendezvous,
+        Some(kept) => Kind::Buffered(kept),
+        None => Kind::Unlimited,
+    }
+}
+
+/// How many transfers four coroutines count in so many turns, on two channels that keep so many elements and have so many places each, by
+/// so many threads, which are none, one, two or four.
 pub(crate) fn met_by_four<R: Threads + Wait + Sync + Clock + AllocGlobal>(
     rt: &R,
-    kind: Kind,
+    kept: Option<u32>,
     places: u32,
     work: (Work, Work),
-    times: u32,
+    times: (u64, u64),
     threads: u32,
 ) -> Done
-    requires elements { is_signal kind ≡ false }
     requires places { (1 ≤ places) × (places ≤ 1048576) }
 {
+    let kind = kind_that_keeps(kept);
     let Ok((hub, mut main)) = new_hub(rt.alloc(), kind, places, places) else {
         return None;
     };
-    let four = four_passes(&hub, &mut main);
+    let four = four_of(&hub, &mut main, work);
     let begun = now(rt);
-    let met = work_by(rt, &hub, four, work, times, threads);
-    Some((u64::from(met), begun))
+    let met = done_by_four(rt, threads, &hub, four, times);
+    Some((met, begun))
 }

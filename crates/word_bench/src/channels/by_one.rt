@@ -1,14 +1,14 @@
 //! Work of one pass: on a buffered channel that is nearly full, and behind receivers that were withdrawn.
-ghost use Rattle.std.specs.Prelude.{◌≡◌, ◌≤◌, false};
-ghost use Rattle.channel_model.specs.Channels.{is_signal};
+ghost use Rattle.std.specs.Prelude.{◌≤◌};
 ghost use Rattle.cell_words.specs.Hubs.{IsOwn};
 ghost use Rattle.word_bench.specs.Channels.{CarryElements};
 
+use crate::channels::at_once::kind_that_keeps;
 use crate::channels::on_passes::{admit, mark, new_hub, offer, receive, try_offer};
 use crate::channels::waits::withdraw;
 use crate::told::{Done, now};
 use cell_words::{Hub, Pass};
-use channel_model::{Got, Kind, TriedOffer};
+use channel_model::{Got, TriedOffer};
 use std::alloc::AllocGlobal;
 use std::time::Clock;
 
@@ -81,16 +81,16 @@ fn try_offers(hub: &Hub, pass: &mut Pass, times: u32) -> u32
     full
 }
 
-/// All of that on one channel with so many places: how many transfers found an element, and offers nobody.
+/// All of that on one channel that keeps so many elements and has so many places: how many transfers found an element, and offers nobody.
 pub(crate) fn done_by_one<R: Clock + AllocGlobal>(
     rt: &R,
-    kind: Kind,
+    kept: u32,
     places: u32,
     times: Times,
 ) -> Done
-    requires elements { is_signal kind ≡ false }
     requires places { (1 ≤ places) × (places ≤ 1048576) }
 {
+    let kind = kind_that_keeps(Some(kept));
     let Ok((hub, mut main)) = new_hub(rt.alloc(), kind, places, 1) else {
         return None;
     };

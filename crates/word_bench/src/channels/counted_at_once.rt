@@ -2,7 +2,7 @@
 ghost use Rattle.std.specs.Prelude.{◌≤◌, ◌<◌, ◌+◌};
 ghost use Rattle.counted_cells.specs.Passes.{IsOf};
 
-use crate::shares::{by_four, sum};
+use crate::shares::{Worker, count, done_by_four, value_of};
 use crate::told::{Done, now};
 use counted_cells::{Counted, CountedGot, CountedPass, CountedSend};
 use std::alloc::AllocGlobal;
@@ -10,27 +10,24 @@ use std::sync::Wait;
 use std::thread::Threads;
 use std::time::Clock;
 
-/// So many sends and as many receives, by turns: how many found their partner. Each of them made a transfer.
-fn work(counted: &Counted, pass: &mut CountedPass, times: u32) -> u32
-    requires { IsOf counted.now pass.old }
-{
-    let mut met = 0u32;
-    for i in 0..times {
-        if let CountedSend::Paired(_) = counted.send(pass, i) {
-            met = met.saturating_add(1);
-        }
-        if let CountedGot::Value(_, _) = counted.receive(pass) {
-            met = met.saturating_add(1);
-        }
+impl Worker for CountedPass {
+    type Floor = Counted;
+
+    ghost can_work = { λ counted pass. IsOf counted pass };
+
+    /// A send and a receive: how many of both found their partner. Each that did made a transfer.
+    fn turn(&mut self, counted: &Counted, number: u64) -> Option<u64> {
+        let sent = matches!(counted.send(self, value_of(number)), CountedSend::Paired(_));
+        let came = matches!(counted.receive(self), CountedGot::Value(_, _));
+        count(sent, came)
     }
-    met
 }
 
-/// The work of four passes of so many cells, by so many threads, which are none, one, two or four: how many calls found their partner.
+/// So many turns of four passes of so many cells, by so many threads, which are none, one, two or four: how many calls found their partner.
 pub(crate) fn drawn_by<R: Threads + Wait + Sync + Clock + AllocGlobal>(
     rt: &R,
     cells: u32,
-    times: u32,
+    times: (u64, u64),
     threads: u32,
 ) -> Done
     requires some { 1 ≤ cells }
@@ -39,18 +36,10 @@ pub(crate) fn drawn_by<R: Threads + Wait + Sync + Clock + AllocGlobal>(
     let Ok((counted, mut a)) = Counted::new(rt.alloc(), cells) else {
         return None;
     };
-    let mut b = counted.split(&mut a);
-    let mut c = counted.split(&mut a);
-    let mut d = counted.split(&mut a);
-    let counted = &counted;
+    let b = counted.split(&mut a);
+    let c = counted.split(&mut a);
+    let d = counted.split(&mut a);
     let begun = now(rt);
-    let left = (
-        || work(counted, &mut a, times),
-        || work(counted, &mut b, times),
-    );
-    let right = (
-        || work(counted, &mut c, times),
-        || work(counted, &mut d, times),
-    );
-    Some((u64::from(sum(by_four(rt, threads, left, right))), begun))
+    let met = done_by_four(rt, threads, &counted, ((a, b), (c, d)), times);
+    Some((met, begun))
 }

@@ -1,127 +1,147 @@
-//! The channels that are measured, and what is done with them.
-ghost use Rattle.std.specs.Prelude.{◌≡◌, false};
-ghost use Rattle.channel_model.specs.Channels.{is_signal};
+//! The cases that are measured.
+ghost use Rattle.std.specs.Prelude.{◌≤◌};
 
-use channel_model::Kind;
+use crate::channels::at_once::Work;
+use crate::channels::by_one::Times;
 
-/// A kind of channel that is measured.
+/// What transfers go through.
 #[derive(Clone, Copy)]
-pub(crate) enum Measured {
-    Rendezvous,
-    Buffered,
-    Unlimited,
+pub(crate) enum By {
+    Words,
+    Cells,
+    Crossbeam,
 }
 
-/// All of them.
-pub(crate) const ALL: [Measured; 3] = [
-    Measured::Rendezvous,
-    Measured::Buffered,
-    Measured::Unlimited,
-];
-
-impl Measured {
-    /// The kind. A buffered channel keeps 64 elements.
-    pub(crate) fn kind(self) -> Kind
-        ensures { is_signal result ≡ false }
-    {
-        match self {
-            Measured::Rendezvous => Kind::Rendezvous,
-            Measured::Buffered => Kind::Buffered(64),
-            Measured::Unlimited => Kind::Unlimited,
-        }
-    }
-
-    /// How many elements a channel of crossbeam_channel keeps, if that is bounded.
-    pub(crate) fn capacity(self) -> Option<usize> {
-        match self {
-            Measured::Rendezvous => Some(0),
-            Measured::Buffered => Some(64),
-            Measured::Unlimited => None,
-        }
-    }
-
-    pub(crate) fn name(self) -> &'static str {
-        match self {
-            Measured::Rendezvous => "rendezvous",
-            Measured::Buffered => "buffered",
-            Measured::Unlimited => "unlimited",
-        }
-    }
-
-    /// The name of the channel beside it by turns. At a rendezvous one of crossbeam_channel makes the sender wait, so there is none.
-    pub(crate) fn beside_by_turns(self) -> Option<&'static str> {
-        match self {
-            Measured::Rendezvous => None,
-            Measured::Buffered => Some("buffered crossbeam"),
-            Measured::Unlimited => Some("unlimited crossbeam"),
-        }
-    }
-
-    /// Its name where senders and receivers are apart, and that of the channel beside it.
-    pub(crate) fn names_apart(self) -> (&'static str, &'static str) {
-        match self {
-            Measured::Rendezvous => ("apart rendezvous", "apart rendezvous crossbeam"),
-            Measured::Buffered => ("apart buffered", "apart buffered crossbeam"),
-            Measured::Unlimited => ("apart unlimited", "apart unlimited crossbeam"),
-        }
-    }
+/// A case of four coroutines.
+#[derive(Clone, Copy)]
+pub(crate) struct ByFour {
+    pub name: &'static str,
+    /// The word that asks for it, and for others.
+    pub group: &'static str,
+    /// By how many threads at least.
+    pub least: u32,
+    pub by: By,
+    /// How many elements a channel keeps. None: all.
+    pub kept: Option<u32>,
+    /// What two of them do, and what the two others.
+    pub work: (Work, Work),
 }
 
-/// A buffered channel that keeps so many elements already.
+/// A case of one coroutine: it transfers, or else it tries to send.
 #[derive(Clone, Copy)]
-pub(crate) struct Filling {
-    pub capacity: u32,
+pub(crate) struct ByOne {
+    pub name: &'static str,
+    pub group: &'static str,
+    pub by: By,
+    /// How many elements the channel keeps.
+    pub kept: u32,
+    /// How many elements it has already.
     pub queued: u32,
-    pub name: &'static str,
-    /// The name of the channel beside it.
-    pub beside: &'static str,
+    /// How many receivers waited on it, and gave up.
+    pub withdrawn: u32,
 }
 
-pub(crate) const FILLINGS: [Filling; 4] = [
-    Filling {
-        capacity: 64,
-        queued: 0,
-        name: "0 of 64 queued",
-        beside: "0 of 64 queued crossbeam",
-    },
-    Filling {
-        capacity: 64,
-        queued: 60,
-        name: "60 of 64 queued",
-        beside: "60 of 64 queued crossbeam",
-    },
-    Filling {
-        capacity: 4096,
-        queued: 0,
-        name: "0 of 4096 queued",
-        beside: "0 of 4096 queued crossbeam",
-    },
-    Filling {
-        capacity: 4096,
-        queued: 4000,
-        name: "4000 of 4096 queued",
-        beside: "4000 of 4096 queued crossbeam",
-    },
-];
-
-/// Receivers that were withdrawn before the offers.
-#[derive(Clone, Copy)]
-pub(crate) struct Withdrawn {
-    pub receivers: u32,
-    pub name: &'static str,
-    /// The name of the channel beside it.
-    pub beside: &'static str,
+macro_rules! by_four {
+    ($name:literal in $group:literal, $least:literal, $by:ident, $kept:expr, $work:ident, $other:ident) => {
+        ByFour {
+            name: $name,
+            group: $group,
+            least: $least,
+            by: By::$by,
+            kept: $kept,
+            work: (Work::$work, Work::$other),
+        }
+    };
 }
 
-pub(crate) const WITHDRAWN: [Withdrawn; 2] = [
-    Withdrawn {
-        receivers: 0,
-        name: "0 withdrawn",
-        beside: "0 withdrawn crossbeam",
-    },
-    Withdrawn {
-        receivers: 1000,
-        name: "1000 withdrawn",
-        beside: "1000 withdrawn crossbeam",
-    },
+macro_rules! by_one {
+    ($name:literal in $group:literal, $by:ident, $kept:literal, $queued:literal queued, $withdrawn:literal withdrawn) => {
+        ByOne {
+            name: $name,
+            group: $group,
+            by: By::$by,
+            kept: $kept,
+            queued: $queued,
+            withdrawn: $withdrawn,
+        }
+    };
+}
+
+/// Those of four coroutines.
+pub(crate) const BY_FOUR: &[ByFour] = &[
+    by_four!("rendezvous" in "rendezvous", 0, Words, Some(0), Both, Both),
+    by_four!("buffered" in "buffered", 0, Words, Some(64), Both, Both),
+    by_four!("buffered crossbeam" in "buffered crossbeam", 0, Crossbeam, Some(64), Both, Both),
+    by_four!("unlimited" in "unlimited", 0, Words, None, Both, Both),
+    by_four!("unlimited crossbeam" in "unlimited crossbeam", 0, Crossbeam, None, Both, Both),
+    by_four!("counted" in "counted", 0, Cells, None, Both, Both),
+    by_four!("apart rendezvous" in "apart", 2, Words, Some(0), Sends, Receives),
+    by_four!("apart rendezvous crossbeam" in "apart", 2, Crossbeam, Some(0), Sends, Receives),
+    by_four!("apart buffered" in "apart", 2, Words, Some(64), Sends, Receives),
+    by_four!("apart buffered crossbeam" in "apart", 2, Crossbeam, Some(64), Sends, Receives),
+    by_four!("apart unlimited" in "apart", 2, Words, None, Sends, Receives),
+    by_four!("apart unlimited crossbeam" in "apart", 2, Crossbeam, None, Sends, Receives),
+    by_four!("select" in "select", 0, Words, Some(64), Selects, Selects),
+    by_four!("select crossbeam" in "select", 4, Crossbeam, Some(64), Selects, Selects),
 ];
+
+/// Those of one.
+pub(crate) const BY_ONE: &[ByOne] = &[
+    by_one!("0 of 64 queued" in "full", Words, 64, 0 queued, 0 withdrawn),
+    by_one!("0 of 64 queued crossbeam" in "full", Crossbeam, 64, 0 queued, 0 withdrawn),
+    by_one!("60 of 64 queued" in "full", Words, 64, 60 queued, 0 withdrawn),
+    by_one!("60 of 64 queued crossbeam" in "full", Crossbeam, 64, 60 queued, 0 withdrawn),
+    by_one!("0 of 4096 queued" in "full", Words, 4096, 0 queued, 0 withdrawn),
+    by_one!("0 of 4096 queued crossbeam" in "full", Crossbeam, 4096, 0 queued, 0 withdrawn),
+    by_one!("4000 of 4096 queued" in "full", Words, 4096, 4000 queued, 0 withdrawn),
+    by_one!("4000 of 4096 queued crossbeam" in "full", Crossbeam, 4096, 4000 queued, 0 withdrawn),
+    by_one!("0 withdrawn" in "withdrawn", Words, 0, 0 queued, 0 withdrawn),
+    by_one!("0 withdrawn crossbeam" in "withdrawn", Crossbeam, 0, 0 queued, 0 withdrawn),
+    by_one!("1000 withdrawn" in "withdrawn", Words, 0, 0 queued, 1000 withdrawn),
+    by_one!("1000 withdrawn crossbeam" in "withdrawn", Crossbeam, 0, 0 queued, 1000 withdrawn),
+];
+
+impl ByFour {
+    /// How many transfers are made of so many. There are 262144 selects at most.
+    pub(crate) fn transfers(&self, asked: u32) -> u32
+        requires asked { (4 ≤ asked) × (asked ≤ 1048576) }
+        ensures { (4 ≤ result) × (result ≤ 1048576) }
+    {
+        match self.work.0 {
+            Work::Selects => asked.min(262144),
+            _ => asked,
+        }
+    }
+
+    /// How many turns the first and the other of each two make for so many transfers. By no threads they make none. Those
+    /// who only send or receive make a half of the transfers each, which over words is twice a quarter.
+    pub(crate) fn times(&self, transfers: u32, threads: u32) -> (u64, u64) {
+        let transfers = u64::from(transfers);
+        let (quarter, half) = (transfers / 4, transfers / 2);
+        if threads == 0 {
+            return (0, 0);
+        }
+        match (self.by, self.work.0) {
+            (By::Crossbeam, Work::Sends) if threads == 2 => (half, transfers - half),
+            (By::Crossbeam, Work::Sends) => (half, half),
+            (_, Work::Sends) => (2 * quarter, 2 * quarter),
+            _ => (quarter, quarter),
+        }
+    }
+}
+
+impl ByOne {
+    /// How often each is done. On a channel that keeps nothing a sixteenth as many tries are made as transfers elsewhere.
+    pub(crate) fn times(&self, transfers: u32) -> Times {
+        let (transfers, tries) = match self.kept {
+            0 => (0, transfers / 16),
+            _ => (transfers, 0),
+        };
+        Times {
+            queued: self.queued,
+            withdrawn: self.withdrawn,
+            transfers,
+            tries,
+        }
+    }
+}

@@ -1,7 +1,7 @@
 //! The same by the kit's `crossbeam_channel`.
 
 use crate::parcels::boxes::Parcel;
-use crate::shares::{by_four, sum};
+use crate::shares::{Worker, done_by_four};
 use crate::told::{Done, now};
 use crossbeam_channel::{Receiver, Sender, bounded};
 use std::alloc::{AllocGlobal, Global};
@@ -9,23 +9,29 @@ use std::sync::Wait;
 use std::thread::Threads;
 use std::time::Clock;
 
-/// So many sends and as many receives, by turns. Answers how many boxes came.
-fn work<R: Wait>(
-    rt: &R,
-    sender: &Sender<Parcel, Global>,
-    receiver: &Receiver<Parcel, Global>,
+/// One that sends and receives, by turns.
+#[derive(Drop)]
+struct Exchanger<'a, R> {
+    rt: &'a R,
     alloc: Global,
-    times: u32,
-) -> u32 {
-    let mut came = 0u32;
-    for i in 0..times {
-        if let Ok(parcel) = Box::new(alloc, [i as u64; 16]) {
-            if sender.send(rt, parcel).is_ok() && receiver.recv(rt).is_ok() {
-                came = came.saturating_add(1);
-            }
-        }
+}
+
+impl<R: Wait + Sync> Worker for Exchanger<'_, R> {
+    type Floor = (Sender<Parcel, Global>, Receiver<Parcel, Global>);
+
+    ghost can_work = { λ ends one. Unit {0} };
+
+    fn turn(
+        &mut self,
+        ends: &(Sender<Parcel, Global>, Receiver<Parcel, Global>),
+        number: u64,
+    ) -> Option<u64> {
+        let Ok(parcel) = Box::new(self.alloc, [number; 16]) else {
+            return Some(0);
+        };
+        let came = ends.0.send(self.rt, parcel).is_ok() && ends.1.recv(self.rt).is_ok();
+        Some(u64::from(came))
     }
-    came
 }
 
 /// So many transfers by each of four, through a channel that keeps so many boxes, on so many threads, which are one, two or four: how many
@@ -33,22 +39,16 @@ fn work<R: Wait>(
 pub(crate) fn exchanged_by<R: Threads + Wait + Sync + Clock + AllocGlobal>(
     rt: &R,
     slots: usize,
-    times: u32,
+    times: u64,
     threads: u32,
 ) -> Done {
     let begun = now(rt);
     let alloc = rt.alloc();
-    let Ok((sender, receiver)) = bounded::<Parcel, Global>(alloc, slots) else {
+    let Ok(ends) = bounded::<Parcel, Global>(alloc, slots) else {
         return None;
     };
-    let (sender, receiver) = (&sender, &receiver);
-    let left = (
-        || work(rt, sender, receiver, alloc, times),
-        || work(rt, sender, receiver, alloc, times),
-    );
-    let right = (
-        || work(rt, sender, receiver, alloc, times),
-        || work(rt, sender, receiver, alloc, times),
-    );
-    Some((u64::from(sum(by_four(rt, threads, left, right))), begun))
+    let left = (Exchanger { rt, alloc }, Exchanger { rt, alloc });
+    let right = (Exchanger { rt, alloc }, Exchanger { rt, alloc });
+    let came = done_by_four(rt, threads, &ends, (left, right), (times, times));
+    Some((came, begun))
 }

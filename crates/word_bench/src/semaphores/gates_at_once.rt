@@ -2,7 +2,7 @@
 ghost use Rattle.std.specs.Prelude.{◌≡◌, ◌<◌, ◌≤◌, true};
 ghost use Rattle.gates.specs.Passes.{IsOf};
 
-use crate::shares::{by_four, sum};
+use crate::shares::{Worker, done_by_four};
 use crate::told::{Done, now};
 use gates::{Gate, GatePass, TryAcquired};
 use std::alloc::AllocGlobal;
@@ -25,25 +25,26 @@ pub(crate) fn take(gate: &Gate, pass: &mut GatePass) -> bool
     false
 }
 
-/// Takes a permit and gives it back, so many times: how often it held one.
-fn work(gate: &Gate, pass: &mut GatePass, times: u32) -> u32
-    requires { IsOf gate.now pass.old }
-{
-    let mut held = 0u32;
-    for i in 0..times {
-        if take(gate, pass) {
-            gate.release(pass, i % 48);
-            held = held.saturating_add(1);
+impl Worker for GatePass {
+    type Floor = Gate;
+
+    ghost can_work = { λ gate pass. IsOf gate pass };
+
+    /// Takes a permit and gives it back: whether it held one.
+    fn turn(&mut self, gate: &Gate, number: u64) -> Option<u64> {
+        if take(gate, self) {
+            gate.release(self, (number % 48) as u32);
+            return Some(1);
         }
+        Some(0)
     }
-    held
 }
 
-/// The work of four passes of a gate of so many permits, by one, two or four threads: how often they held one.
+/// So many turns of four passes of a gate of so many permits, by one, two or four threads: how often they held one.
 pub(crate) fn held_by_four<R: Threads + Wait + Sync + Clock + AllocGlobal>(
     rt: &R,
     permits: u32,
-    times: u32,
+    times: u64,
     threads: u32,
 ) -> Done
     requires some { 1 ≤ permits }
@@ -52,12 +53,10 @@ pub(crate) fn held_by_four<R: Threads + Wait + Sync + Clock + AllocGlobal>(
     let Ok((gate, mut a)) = Gate::new(rt.alloc(), permits) else {
         return None;
     };
-    let mut b = gate.split(&mut a);
-    let mut c = gate.split(&mut a);
-    let mut d = gate.split(&mut a);
-    let gate = &gate;
+    let b = gate.split(&mut a);
+    let c = gate.split(&mut a);
+    let d = gate.split(&mut a);
     let begun = now(rt);
-    let left = (|| work(gate, &mut a, times), || work(gate, &mut b, times));
-    let right = (|| work(gate, &mut c, times), || work(gate, &mut d, times));
-    Some((u64::from(sum(by_four(rt, threads, left, right))), begun))
+    let held = done_by_four(rt, threads, &gate, ((a, b), (c, d)), (times, times));
+    Some((held, begun))
 }
