@@ -10,10 +10,6 @@
 mod outcome;
 mod process;
 mod reading;
-#[cfg(test)]
-mod rows;
-#[cfg(test)]
-mod tests;
 mod top;
 mod words;
 

@@ -84,7 +84,7 @@ fn read_answer<S: Source>(alloc: Global, asked: Asked, source: &mut S) -> Result
 }
 
 /// Makes the picture of a text, if it is a report, or a script and a report of it.
-pub(crate) fn answer_of(alloc: Global, asked: Asked, bytes: &[u8]) -> Result<Answer, Outcome>
+fn answer_of(alloc: Global, asked: Asked, bytes: &[u8]) -> Result<Answer, Outcome>
     requires { length bytes.now ≤ 67108864 }
     ensures { IsMadeOf asked bytes.now result }
 {
