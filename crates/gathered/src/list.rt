@@ -1,5 +1,5 @@
 //! A list that remembers that memory ran out.
-ghost use Rattle.std.specs.Prelude.{◌≡◌, ◌∷◌, ◌++◌, [], false, not, take, length, IfOk, IfSome};
+ghost use Rattle.std.specs.Prelude.{◌≡◌, ◌<◌, ◌↔◌, ◌⊎◌, ◌∷◌, ◌++◌, [], true, false, not, take, length, option_to_list, IsSome, IfOk, OnErr};
 
 use std::alloc::{AllocError, Global};
 
@@ -25,7 +25,9 @@ impl<T: Drop> Gathered<T> {
 
     /// Adds an item. If there is no memory it is let go, and is missing.
     pub fn add(&mut self, value: T)
-        ensures { self.new.full ≡ false → (self.old.full ≡ false) × (self.new.list.items ≡ self.old.list.items ++ value ∷ []) }
+        ensures added { self.new.full ≡ false → (self.old.full ≡ false) × (self.new.list.items ≡ self.old.list.items ++ value ∷ []) }
+        ensures or_missing { (self.new.list.items ≡ self.old.list.items ++ value ∷ [])
+            ⊎ ((self.new.full ≡ true) × (self.new.list.items ≡ self.old.list.items)) }
     {
         if self.list.push(value).is_err() {
             self.full = true;
@@ -40,7 +42,9 @@ impl<T: Drop> Gathered<T> {
     }
 
     /// The same, to be changed.
-    pub fn as_mut(&mut self) -> &mut Vec<T> {
+    pub fn as_mut(&mut self) -> &mut Vec<T>
+        ensures { result.now.items ≡ self.old.list.items }
+    {
         &mut self.list
     }
 
@@ -53,7 +57,8 @@ impl<T: Drop> Gathered<T> {
 
     /// Takes the last item out.
     pub fn pop(&mut self) -> Option<T>
-        ensures list { IfSome result (λ last. self.old.list.items ≡ self.new.list.items ++ last ∷ []) }
+        ensures list { self.old.list.items ≡ self.new.list.items ++ option_to_list result }
+        ensures variant { IsSome result ↔ (0 < length self.old.list.items) }
         ensures full { self.new.full ≡ self.old.full }
     {
         self.list.pop()
@@ -86,6 +91,7 @@ impl<T: Drop> Gathered<T> {
     pub fn whole(self) -> Result<Vec<T>, AllocError>
         ensures list { IfOk result (λ list. list.items ≡ self.list.items) }
         ensures whole { IfOk result (λ _. self.full ≡ false) }
+        ensures missing { OnErr result (self.full ≡ true) }
     {
         let Gathered { list, full } = self;
         if full { Err(AllocError) } else { Ok(list) }
@@ -95,7 +101,9 @@ impl<T: Drop> Gathered<T> {
 impl<T: Copy + Drop> Gathered<T> {
     /// Adds items.
     pub fn add_all(&mut self, values: &[T])
-        ensures { self.new.full ≡ false → (self.old.full ≡ false) × (self.new.list.items ≡ self.old.list.items ++ values.now) }
+        ensures added { self.new.full ≡ false → (self.old.full ≡ false) × (self.new.list.items ≡ self.old.list.items ++ values.now) }
+        ensures or_missing { (self.new.list.items ≡ self.old.list.items ++ values.now)
+            ⊎ ((self.new.full ≡ true) × (self.new.list.items ≡ self.old.list.items)) }
     {
         if self.list.extend_from_slice(values).is_err() {
             self.full = true;

@@ -1,5 +1,5 @@
 //! What stands at a place of a list, and between two.
-ghost use Rattle.std.specs.Prelude.{◌≡◌, ◌≤◌, length, IfOk, slice_index_or, slice_range, slice_set};
+ghost use Rattle.std.specs.Prelude.{◌≡◌, ◌≤◌, ◌<◌, ◌⊎◌, [], length, replicate, IfOk, slice_index_or, slice_range, slice_set};
 
 use std::alloc::{AllocError, Global};
 
@@ -19,7 +19,8 @@ pub fn at<T: Copy>(list: &[T], place: usize, other: T) -> T
 
 /// What stands from a place on, up to another; nothing, if the list has no such places.
 pub fn between<T>(list: &[T], from: usize, to: usize) -> &[T]
-    ensures { from ≤ to → to ≤ length list.now → result.now ≡ slice_range list.now from to }
+    ensures within { from ≤ to → to ≤ length list.now → result.now ≡ slice_range list.now from to }
+    ensures outside { (to < from) ⊎ (length list.now < to) → result.now ≡ [] }
 {
     if from <= to && to <= list.len() {
         &list[from..to]
@@ -39,7 +40,8 @@ pub fn put<T: Copy>(list: &mut Vec<T>, place: usize, value: T)
 
 /// This value, so many times.
 pub fn filled<T: Clone>(alloc: Global, value: T, count: usize) -> Result<Vec<T>, AllocError>
-    ensures { IfOk result (λ list. length list.items ≡ count) }
+    ensures len { IfOk result (λ list. length list.items ≡ count) }
+    ensures items_if_clones_equal { IfOk result (λ list. ((y : T) → T.is_clone value y → y ≡ value) → list.items ≡ replicate count value) }
 {
     vec![in alloc; value; count]
 }
