@@ -1,17 +1,19 @@
--- Members that are added one after another.
-use Rattle.std.proofs.Common.{◌≡◌, ℕ, List, [], ◌++◌, ap, ◌∙◌, append_assoc, append-nil}
+-- Members that are added piece by piece.
+use Rattle.std.proofs.Common.{◌≡◌, ℕ, List, [], ◌++◌, append_assoc, append-nil}
 
-regroup_three : (o a b c : List ℕ) → o ++ a ++ b ++ c ≡ o ++ (a ++ (b ++ (c ++ [])))
-regroup_three o a b c = simp (append_assoc, append-nil)
+-- a member that is a number, behind others
+pub one_number : (f n a c : List ℕ) → f ++ n ++ a ++ c ≡ f ++ ((n ++ a ++ c) ++ [])
+one_number f n a c = simp (append_assoc, append-nil)
 
-pub three_fields : (a b c o o₁ o₂ o₃ : List ℕ) → o₁ ≡ o ++ a → o₂ ≡ o₁ ++ b → o₃ ≡ o₂ ++ c → o₃ ≡ o ++ (a ++ (b ++ (c ++ [])))
-three_fields a b c o o₁ o₂ o₃ e₁ e₂ e₃ =
-    e₃ ∙ ap (λ l. l ++ c) (e₂ ∙ ap (λ l. l ++ b) e₁) ∙ regroup_three o a b c
+-- two members that are numbers, behind others
+pub two_numbers : (f n a c m b : List ℕ) → f ++ n ++ a ++ (c ++ m) ++ b ++ c ≡ f ++ ((n ++ a ++ c) ++ ((m ++ b ++ c) ++ []))
+two_numbers f n a c m b = simp (append_assoc, append-nil)
 
-regroup_four : (o a b c d : List ℕ) → o ++ a ++ b ++ c ++ d ≡ o ++ (a ++ (b ++ (c ++ (d ++ []))))
-regroup_four o a b c d = simp (append_assoc, append-nil)
+-- the beginning of an event
+pub beginning : (o n a c m b p k t : List ℕ)
+    → o ++ n ++ a ++ (c ++ m) ++ b ++ (c ++ p ++ k) ++ t ++ c ≡ o ++ (n ++ a ++ c) ++ (m ++ b ++ c) ++ p ++ (k ++ t ++ c)
+beginning o n a c m b p k t = simp append_assoc
 
-pub four_fields : (a b c d o o₁ o₂ o₃ o₄ : List ℕ) → o₁ ≡ o ++ a → o₂ ≡ o₁ ++ b → o₃ ≡ o₂ ++ c → o₄ ≡ o₃ ++ d
-    → o₄ ≡ o ++ (a ++ (b ++ (c ++ (d ++ []))))
-four_fields a b c d o o₁ o₂ o₃ o₄ e₁ e₂ e₃ e₄ =
-    e₄ ∙ ap (λ l. l ++ d) (e₃ ∙ ap (λ l. l ++ c) (e₂ ∙ ap (λ l. l ++ b) e₁)) ∙ regroup_four o a b c d
+-- the end of an event
+pub ending : (o a s c d e : List ℕ) → o ++ a ++ s ++ (c ++ d ++ e) ≡ o ++ a ++ s ++ c ++ d ++ e
+ending o a s c d e = simp append_assoc

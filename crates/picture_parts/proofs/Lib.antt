@@ -1,1 +1,3 @@
 mod Fields
+pub mod Plain
+pub mod PlainJson

@@ -14,10 +14,11 @@ mod names;
 mod places;
 
 pub use line_words::{is_bookkeeping, tells, word};
-pub use markup::{fate_label, push_attribute, push_decimal, push_number, push_rest, push_step};
-pub use members::{
-    push_arguments, push_arriving, push_end, push_instant, push_leaving, push_naming, push_place,
-    push_slice,
+pub use markup::{
+    add_attribute, add_escaped, add_fate_label, add_number, add_rest, add_step, add_title,
 };
-pub use names::{Names, heading, with_source};
+pub use members::{
+    add_arriving, add_end, add_instant, add_json_escaped, add_leaving, add_place, add_slice,
+};
+pub use names::{Names, heading, name_of};
 pub use places::{column_of, is_among, row_behind};

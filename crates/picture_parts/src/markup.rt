@@ -1,135 +1,109 @@
 //! Texts in markup: attributes, titles, and the ends of elements.
 
-ghost use Rattle.std.specs.Prelude.{◌≡◌, ◌++◌, IfOk, OnOk};
+ghost use Rattle.std.specs.Prelude.{◌≡◌, ◌++◌};
 ghost use Rattle.std.specs.Fmt.{decimal};
+ghost use Rattle.gathered.specs.Texts.{Adds};
 ghost use Rattle.picture_parts.specs.Markup.{attribute_text, escape, escaped, fate_label, rest_text, title_text};
+ghost use Rattle.picture_parts.specs.Names.{with_source};
 
 use crate::line_words::word;
-use std::alloc::{AllocError, Global};
+use gathered::Text;
+use std::slice::from_ref;
 
-fn push_escape(out: &mut Vec<u8>, byte: u8) -> Result<(), AllocError>
-    ensures { OnOk result (out.new.items ≡ out.old.items ++ escape byte) }
+/// What stands for a byte of a text that is no markup.
+fn escape(byte: &u8) -> &[u8]
+    ensures { result.now ≡ escape byte.now }
 {
-    match byte {
-        b'<' => {
-            out.extend_from_slice(b"&lt;")?;
-            Ok(())
-        }
-        b'>' => {
-            out.extend_from_slice(b"&gt;")?;
-            Ok(())
-        }
-        b'&' => {
-            out.extend_from_slice(b"&amp;")?;
-            Ok(())
-        }
-        b'"' => {
-            out.extend_from_slice(b"&quot;")?;
-            Ok(())
-        }
-        _ => {
-            out.push(byte)?;
-            Ok(())
-        }
+    match *byte {
+        b'<' => b"&lt;",
+        b'>' => b"&gt;",
+        b'&' => b"&amp;",
+        b'"' => b"&quot;",
+        _ => from_ref(byte),
     }
 }
 
-fn push_escaped(out: &mut Vec<u8>, text: &[u8]) -> Result<(), AllocError>
-    ensures { OnOk result (out.new.items ≡ out.old.items ++ escaped text.now) }
+/// Adds a text that is no markup.
+pub fn add_escaped(text: &mut Text, words: &[u8])
+    ensures { Adds text.old text.new (escaped words.now) }
 {
-    let mut rest = text;
+    let mut rest = words;
     while let [byte, more @ ..] = rest {
-        push_escape(out, *byte)?;
+        text.add(escape(byte));
         rest = more;
     }
-    Ok(())
 }
 
-fn number(alloc: Global, n: u64) -> Result<Vec<u8>, AllocError>
-    ensures { IfOk result (λ text. text.items ≡ decimal n) }
+/// Adds a letter and a number, in which nothing is markup.
+pub fn add_step(text: &mut Text, letter: &[u8], n: u64)
+    ensures { Adds text.old text.new (letter.now ++ escaped (decimal n)) }
 {
-    let text = format!(in alloc; "{n}")?;
-    Ok(text.into_bytes())
-}
-
-/// Adds a number in decimal.
-pub fn push_decimal(alloc: Global, out: &mut Vec<u8>, n: u64) -> Result<(), AllocError>
-    ensures { OnOk result (out.new.items ≡ out.old.items ++ decimal n) }
-{
-    let text = number(alloc, n)?;
-    out.extend_from_slice(text.as_slice())?;
-    Ok(())
-}
-
-/// Adds a letter and a number.
-pub fn push_step(alloc: Global, out: &mut Vec<u8>, letter: &[u8], n: u64) -> Result<(), AllocError>
-    ensures { OnOk result (out.new.items ≡ out.old.items ++ letter.now ++ decimal n) }
-{
-    out.extend_from_slice(letter)?;
-    push_decimal(alloc, out, n)?;
-    Ok(())
+    text.add_numbered(letter, n);
 }
 
 /// Adds an attribute, with a blank before it.
-pub fn push_attribute(out: &mut Vec<u8>, name: &[u8], value: &[u8]) -> Result<(), AllocError>
-    ensures { OnOk result (out.new.items ≡ out.old.items ++ attribute_text name.now value.now) }
+pub fn add_attribute(text: &mut Text, name: &[u8], value: &[u8])
+    ensures { Adds text.old text.new (attribute_text name.now value.now) }
 {
-    out.extend_from_slice(b" ")?;
-    out.extend_from_slice(name)?;
-    out.extend_from_slice(b"=\"")?;
-    push_escaped(out, value)?;
-    out.extend_from_slice(b"\"")?;
-    Ok(())
+    text.add(b" ");
+    text.add(name);
+    text.add(b"=\"");
+    add_escaped(text, value);
+    text.add(b"\"");
 }
 
 /// The same with a number in decimal.
-pub fn push_number(alloc: Global, out: &mut Vec<u8>, name: &[u8], n: u64) -> Result<(), AllocError>
-    ensures { OnOk result (out.new.items ≡ out.old.items ++ attribute_text name.now (decimal n)) }
+pub fn add_number(text: &mut Text, name: &[u8], n: u64)
+    ensures { Adds text.old text.new (attribute_text name.now (decimal n)) }
 {
-    let value = number(alloc, n)?;
-    push_attribute(out, name, value.as_slice())?;
-    Ok(())
+    text.add(b" ");
+    text.add(name);
+    text.add(b"=\"");
+    text.add_number(n);
+    text.add(b"\"");
 }
 
-fn push_title(out: &mut Vec<u8>, title: &[u8]) -> Result<(), AllocError>
-    ensures { OnOk result (out.new.items ≡ out.old.items ++ title_text title.now) }
+/// Adds the title of an element: a line, and below it that of a script, if they are not empty.
+pub fn add_title(text: &mut Text, line: &[u8], source: &[u8])
+    ensures { Adds text.old text.new (title_text (with_source line.now source.now)) }
 {
-    if let [_, ..] = title {
-        out.extend_from_slice(b"<title>")?;
-        push_escaped(out, title)?;
-        out.extend_from_slice(b"</title>")?;
+    if source.is_empty() {
+        if !line.is_empty() {
+            text.add(b"<title>");
+            add_escaped(text, line);
+            text.add(b"</title>");
+        }
+    } else {
+        text.add(b"<title>");
+        add_escaped(text, line);
+        text.add(b"\n");
+        add_escaped(text, source);
+        text.add(b"</title>");
     }
-    Ok(())
 }
 
-/// The end of an element behind its attributes.
-pub fn push_rest(
-    out: &mut Vec<u8>,
-    name: &[u8],
-    title: &[u8],
-    text: &[u8],
-) -> Result<(), AllocError>
-    ensures { OnOk result (out.new.items ≡ out.old.items ++ rest_text name.now title.now text.now) }
+/// Adds the end of an element behind its attributes, with such a title.
+pub fn add_rest(text: &mut Text, name: &[u8], line: &[u8], source: &[u8], words: &[u8])
+    ensures { Adds text.old text.new (rest_text name.now (with_source line.now source.now) words.now) }
 {
-    out.extend_from_slice(b">")?;
-    push_title(out, title)?;
-    push_escaped(out, text)?;
-    out.extend_from_slice(b"</")?;
-    out.extend_from_slice(name)?;
-    out.extend_from_slice(b">\n")?;
-    Ok(())
+    text.add(b">");
+    add_title(text, line, source);
+    add_escaped(text, words);
+    text.add(b"</");
+    text.add(name);
+    text.add(b">\n");
 }
 
-/// An element that was not received: its channel, its place, its value and its fate, by the line that tells it.
-pub fn fate_label(alloc: Global, line: &[u8]) -> Result<Vec<u8>, AllocError>
-    ensures { IfOk result (λ text. text.items ≡ fate_label line.now) }
+/// Adds, as a text that is no markup, an element that was not received: its channel, its place, its value and its fate, by the line
+/// that tells it.
+pub fn add_fate_label(text: &mut Text, line: &[u8])
+    ensures { Adds text.old text.new (escaped (fate_label line.now)) }
 {
-    let mut text = Vec::from_slice(alloc, word(1, line))?;
-    text.extend_from_slice(b".")?;
-    text.extend_from_slice(word(2, line))?;
-    text.extend_from_slice(b": ")?;
-    text.extend_from_slice(word(3, line))?;
-    text.extend_from_slice(b" ")?;
-    text.extend_from_slice(word(4, line))?;
-    Ok(text)
+    add_escaped(text, word(1, line));
+    text.add(b".");
+    add_escaped(text, word(2, line));
+    text.add(b": ");
+    add_escaped(text, word(3, line));
+    text.add(b" ");
+    add_escaped(text, word(4, line));
 }

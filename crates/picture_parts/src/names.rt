@@ -1,9 +1,9 @@
 //! What coroutines are called, and what a reader is shown that points at a mark.
 
 ghost use Rattle.std.specs.Prelude.{◌≡◌, [], IfOk, map};
-ghost use Rattle.picture_parts.specs.Names.{heading, name_of, with_source};
+ghost use Rattle.picture_parts.specs.Names.{heading, name_of};
 
-use crate::markup::push_decimal;
+use gathered::Text;
 use std::alloc::{AllocError, Global};
 
 /// What a script says of its coroutines and of the lines of a report; without a script, nothing.
@@ -35,8 +35,8 @@ impl<'a> Names<'a> {
     }
 }
 
-/// The name of a coroutine.
-fn name_of(names: &[Vec<u8>], tag: u32) -> &[u8]
+/// The name of a coroutine among these, in the order of the tags; `coroutine`, if it has none.
+pub fn name_of(names: &[Vec<u8>], tag: u32) -> &[u8]
     ensures { result.now ≡ name_of (map (λ n. n.items) names.now) tag }
 {
     match names.get(tag as usize) {
@@ -45,24 +45,13 @@ fn name_of(names: &[Vec<u8>], tag: u32) -> &[u8]
     }
 }
 
-/// A coroutine, as `worker 3`: its name among these, in the order of the tags, and its tag. One that has no name is `coroutine 3`.
+/// A coroutine, as `worker 3`: its name and its tag. One that has no name is `coroutine 3`.
 pub fn heading(alloc: Global, names: &[Vec<u8>], tag: u32) -> Result<Vec<u8>, AllocError>
     ensures { IfOk result (λ text. text.items ≡ heading (map (λ n. n.items) names.now) tag) }
 {
-    let mut text = Vec::from_slice(alloc, name_of(names, tag))?;
-    text.extend_from_slice(b" ")?;
-    push_decimal(alloc, &mut text, u64::from(tag))?;
-    Ok(text)
-}
-
-/// A line of the report, and below it the line of the script that it comes from, if that is not empty.
-pub fn with_source(alloc: Global, line: &[u8], source: &[u8]) -> Result<Vec<u8>, AllocError>
-    ensures { IfOk result (λ text. text.items ≡ with_source line.now source.now) }
-{
-    let mut text = Vec::from_slice(alloc, line)?;
-    if let [_, ..] = source {
-        text.extend_from_slice(b"\n")?;
-        text.extend_from_slice(source)?;
-    }
-    Ok(text)
+    let mut text = Text::new(alloc);
+    text.add(name_of(names, tag));
+    text.add(b" ");
+    text.add_number(tag as u64);
+    text.whole()
 }

@@ -1,6 +1,10 @@
 -- The text of a picture is a well-formed document.
-use Rattle.std.proofs.Common.{◌≡◌, ℕ, List, Option, None, Some, [], ◌∷◌, ◌++◌, refl, sym, subst, append_assoc, append-nil, map, ap, ◌∙◌}
+use Rattle.std.proofs.Common.{◌≡◌, ℕ, List, Option, None, Some, [], ◌∷◌, ◌++◌, refl, sym, subst, append_assoc, append-nil, map, ap, ◌∙◌, Result, Ok, Err, IfOk, Vec, Global}
+use Rattle.std.specs.declared.alloc.AllocError.{AllocError}
 use lib.Chars.{codes}
+use Rattle.gathered.specs.declared.text.Text.{Text as Written}
+use Rattle.gathered.specs.Texts.{Adds}
+use Rattle.gathered.proofs.Adding.{adds, adds_same}
 use Rattle.report_picture.specs.declared.picture.Mark.{Mark}
 use Rattle.report_picture.specs.declared.picture.Mark.TheVariants.{Box, Path, Text}
 use Rattle.report_picture.specs.declared.picture.Column.{Column}
@@ -155,21 +159,27 @@ regroup_parts h s m f t l e = simp append_assoc
 abbrev opening : Picture → List ℕ
 opening p = codes "<svg" ++ attributes_text (document_attributes p.width p.height) ++ codes ">\n"
 
--- the whole text, by what each step wrote of the marks, the fates, the columns and the lines of the picture
-pub whole : (p : Picture) (marks : List Mark) (lost : List Lost) (columns : List Column) (lines : List Drawn)
-    (o₀ o₁ o₂ o₃ o₄ o₅ o₆ o₇ : List ℕ) → marks ≡ p.marks.items → lost ≡ p.lost.items → columns ≡ p.columns.items
-    → lines ≡ p.lines.items → o₀ ≡ []
-    → o₁ ≡ o₀ ++ codes "<svg" ++ attributes_text (document_attributes p.width p.height) ++ codes ">\n"
-    → o₂ ≡ o₁ ++ node_text style_node → o₃ ≡ o₂ ++ nodes_text (map mark_node marks) → o₄ ≡ o₃ ++ nodes_text (fate_nodes lost)
-    → o₅ ≡ o₄ ++ nodes_text (head_nodes (names_in p) p.top columns) → o₆ ≡ o₅ ++ nodes_text (map (line_node p) lines)
-    → o₇ ≡ o₆ ++ codes "</svg>\n" → o₇ ≡ svg_text p
-whole p marks lost columns lines o₀ o₁ o₂ o₃ o₄ o₅ o₆ o₇ em ef ec el e₀ e₁ e₂ e₃ e₄ e₅ e₆ e₇ =
-    e₇ ∙ ap (λ o. o ++ codes "</svg>\n")
-    (e₆ ∙ ap (λ ls. o₅ ++ nodes_text (map (line_node p) ls)) el ∙ ap (λ o. o ++ texts_of_lines p)
-    (e₅ ∙ ap (λ cs. o₄ ++ nodes_text (head_nodes (names_in p) p.top cs)) ec ∙ ap (λ o. o ++ heads_text p)
-    (e₄ ∙ ap (λ fs. o₃ ++ nodes_text (fate_nodes fs)) ef ∙ ap (λ o. o ++ fates_text p)
-    (e₃ ∙ ap (λ ms. o₂ ++ nodes_text (map mark_node ms)) em ∙ ap (λ o. o ++ marks_text p)
-    (e₂ ∙ ap (λ o. o ++ node_text style_node)
-    (e₁ ∙ ap (λ o. o ++ codes "<svg" ++ attributes_text (document_attributes p.width p.height) ++ codes ">\n") e₀))))))
-    ∙ regroup_parts (opening p) (node_text style_node) (marks_text p) (fates_text p) (heads_text p) (texts_of_lines p) (codes "</svg>\n")
+-- the whole text, from its parts
+pub whole : (p : Picture)
+    → opening p ++ node_text style_node ++ marks_text p ++ fates_text p ++ heads_text p ++ texts_of_lines p ++ codes "</svg>\n"
+    ≡ svg_text p
+whole p =
+    regroup_parts (opening p) (node_text style_node) (marks_text p) (fates_text p) (heads_text p) (texts_of_lines p) (codes "</svg>\n")
     ∙ ap (λ n. opening p ++ n ++ codes "</svg>\n") (sym (parts_append p))
+
+-- a text that memory held is a well-formed document
+pub all_documents : (result : Result (Vec ℕ Global) AllocError) (p : Picture) → IfOk result (λ bytes. bytes.items ≡ svg_text p)
+    → IfOk result (λ bytes. IsDocument (codes "svg") bytes.items)
+all_documents (Ok bytes) p is = subst (IsDocument (codes "svg")) (sym is) (is_document p)
+all_documents (Err e) p is = tt
+
+-- ---- texts that are added one after another
+
+regroup_text : (t g b c d e : List ℕ) → t ++ g ++ b ++ (c ++ d ++ e) ≡ t ++ (g ++ b ++ c ++ d ++ e)
+regroup_text t g b c d e = simp append_assoc
+
+-- the element of a text from its attributes, its title and its words
+pub adds_text : {a b c d e : Written} {t g w : List ℕ} → Adds a b t → Adds b c g → Adds c d w → Adds d e (codes "</text>\n")
+    → Adds a e (t ++ (g ++ w ++ codes "</" ++ codes "text" ++ codes ">\n"))
+adds_text {a} {b} {c} {d} {e} {t} {g} {w} begins titled words ends =
+    adds_same (regroup_text t g w (codes "</") (codes "text") (codes ">\n")) (adds (adds (adds begins titled) words) ends)

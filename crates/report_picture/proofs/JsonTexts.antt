@@ -1,5 +1,6 @@
 -- The text of a trace is well-formed JSON.
-use Rattle.std.proofs.Common.{◌≡◌, ℕ, List, [], ◌∷◌, ◌++◌, Bool, true, false, sym, subst, append_assoc, append-nil, map}
+use Rattle.std.proofs.Common.{◌≡◌, ℕ, List, [], ◌∷◌, ◌++◌, Bool, true, false, sym, subst, append_assoc, append-nil, map, Result, Ok, Err, IfOk, Vec, Global}
+use Rattle.std.specs.declared.alloc.AllocError.{AllocError}
 use Rattle.std.specs.Fmt.{decimal}
 use lib.Chars.{codes}
 use Rattle.report_picture.specs.Json.{Json, value, members, elements, number, text, object, array, last_member, member_then, last_element, element_then, quoted}
@@ -131,3 +132,9 @@ is_json t = (
       (elements_text (map moment_text t.moments.items))
       (elements_text (map event_text t.events.items)) (last_text ++ codes "\n") (codes "]") (codes "}") (codes "\n")),
 )
+
+-- the same of a text that memory held
+pub all_json : (result : Result (Vec ℕ Global) AllocError) (t : Trace) → IfOk result (λ bytes. bytes.items ≡ trace_text t)
+    → IfOk result (λ bytes. IsJson bytes.items)
+all_json (Ok bytes) t is = subst IsJson (sym is) (is_json t)
+all_json (Err e) t is = tt

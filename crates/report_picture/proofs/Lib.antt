@@ -1,4 +1,5 @@
 mod Beside
+mod DiagramTexts
 mod Documents
 mod Fields
 mod JsonTexts

@@ -4,7 +4,7 @@ use Rattle.std.proofs.lemmas.List.{take_all}
 use Rattle.std.proofs.lemmas.List.Elements.{filter-append}
 use Rattle.report_picture.specs.declared.picture.Drawn.{Drawn}
 use Rattle.report_picture.specs.Order.{StandFrom}
-use Rattle.report_picture.specs.Pictures.{EndsAbove, StandInColumns, StandInOrder, StandsBelow, column_of, is_target}
+use Rattle.report_picture.specs.Pictures.{EndsAbove, StandInColumns, StandInOrder, column_of, is_target}
 use Rattle.report_reader.specs.declared.line.Line.{Line}
 use Rattle.report_reader.specs.Reports.{Line as Told}
 use Rattle.report_reader.specs.Reading.{told, told_lines}
@@ -45,16 +45,14 @@ rows_from n (x ∷ ds) d stand is = (stand.0, rows_from (n + 1) ds d stand.1 (om
 pub rows_more : (ds : List Drawn) (d : Drawn) → StandFrom 0 ds → d.row ≡ length ds → StandFrom 0 (ds ++ d ∷ [])
 rows_more ds d stand is = rows_from 0 ds d stand (omega (arith, is))
 
-below_from : (n : ℕ) (d : Drawn) (ds : List Drawn) → d.row ≡ n → StandFrom (n + 1) ds → StandsBelow d.column d.row ds
-below_from n d [] is stand = tt
-below_from n d (e ∷ ds) is stand = λ same. omega (arith, is, stand.0)
+above_from : (column n : ℕ) (ds : List Drawn) → StandFrom n ds → EndsAbove column (n + length ds) ds
+above_from column n [] stand = tt
+above_from column n (d ∷ []) stand = λ same. omega (arith, stand.0)
+above_from column n (d ∷ (e ∷ ds)) stand =
+    subst (λ row. EndsAbove column row (e ∷ ds)) (omega arith) (above_from column (n + 1) (e ∷ ds) stand.1)
 
-order_from : (n : ℕ) (ds : List Drawn) → StandFrom n ds → StandInOrder ds
-order_from n [] stand = tt
-order_from n (d ∷ ds) stand = (below_from n d ds stand.0 stand.1, order_from (n + 1) ds stand.1)
-
-pub in_order_from : (ds : List Drawn) → StandFrom 0 ds → StandInOrder ds
-in_order_from ds stand = order_from 0 ds stand
+pub told_above : (column : ℕ) (ds : List Drawn) → StandFrom 0 ds → EndsAbove column (length ds) ds
+told_above column ds stand = subst (λ row. EndsAbove column row ds) (omega arith) (above_from column 0 ds stand)
 
 -- the first of a list, and the others
 split_off : {A : Type 0} (xs : List A) (d : A) → 1 ≤ length xs → xs ≡ get_or xs 0 d ∷ take (length xs - 1) (drop 1 xs)

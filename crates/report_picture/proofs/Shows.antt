@@ -1,12 +1,12 @@
 -- What a picture shows, by what its parts show.
-use Rattle.std.proofs.Common.{◌≡◌, ◌∙◌, ℕ, List, Bool, map, filter, subst, ap}
+use Rattle.std.proofs.Common.{◌≡◌, ◌∙◌, ℕ, List, Bool, true, false, map, filter, subst, ap, sym}
 use Rattle.report_reader.specs.Reports.{Line as Told}
 use Rattle.report_reader.specs.Reading.{told}
 use Rattle.report_picture.specs.declared.columns.Wanted.{Wanted}
 use Rattle.report_picture.specs.declared.picture.Drawn.{Drawn}
 use Rattle.report_picture.specs.declared.picture.Picture.{Picture}
 use Rattle.report_picture.specs.Pictures.{StandBeside, StandInColumns, StandInOrder, is_drawn, is_element, is_within, lines_in, tags_of}
-use Rattle.report_picture.specs.Order.{AreOrdered}
+use Rattle.report_picture.specs.Order.{AreOrdered, StandBelow, StandFrom}
 use Rattle.report_picture.specs.Shown.{Shows}
 
 pub shown : (found : Bool) (wanted : Wanted) (lines : List Told) (picture : Picture) (tags : List ℕ) (whole slice : List Drawn)
@@ -25,3 +25,11 @@ shown found wanted lines picture tags whole slice are is columns beside once in_
   part = part ∙ ap (filter (is_within wanted)) is;
   fates = fates;
 }
+
+pub are_allowed : (found : Bool) (wanted : Wanted) (tags : List ℕ) (lines : List Told) (ds : List Drawn) → found ≡ true
+    → StandBelow wanted tags lines ds → AreOrdered found wanted tags lines ds
+are_allowed found wanted tags lines ds is below = subst (λ f. AreOrdered f wanted tags lines ds) (sym is) below
+
+pub are_told : (found : Bool) (wanted : Wanted) (tags : List ℕ) (lines : List Told) (ds : List Drawn) → found ≡ false → StandFrom 0 ds
+    → AreOrdered found wanted tags lines ds
+are_told found wanted tags lines ds is stand = subst (λ f. AreOrdered f wanted tags lines ds) (sym is) stand

@@ -13,8 +13,8 @@ use Rattle.report_picture.specs.declared.looks.Shade.{Shade}
 use Rattle.report_picture.specs.declared.looks.Shade.TheVariants as shades
 use Rattle.report_picture.specs.declared.looks.State.{State}
 use Rattle.report_picture.specs.declared.looks.State.TheVariants.{New, Active, Completing, Cancelling, Completed, Cancelled, Failed}
-use Rattle.report_picture.specs.declared.picture.Way.{Way}
-use Rattle.report_picture.specs.declared.picture.Way.TheVariants.{Down, Bent, Cross}
+use Rattle.report_picture.specs.declared.picture.Route.{Route}
+use Rattle.report_picture.specs.declared.picture.Route.TheVariants.{Down, Bent, Cross}
 use Rattle.report_picture.specs.declared.picture.Title.{Title}
 use Rattle.report_picture.specs.declared.picture.Mark.{Mark}
 use Rattle.report_picture.specs.declared.picture.Mark.TheVariants.{Box, Path, Text}
@@ -80,7 +80,7 @@ look_word Hangs = codes "hangs"
 look_word Label = codes "label"
 
 -- the data of a path
-abbrev pub way_text : Way → List ℕ
+abbrev pub way_text : Route → List ℕ
 way_text (Down x from to) = codes "M" ++ decimal x ++ codes " " ++ decimal from ++ codes "V" ++ decimal to
 way_text (Bent x level lane to_y to_x) =
     codes "M" ++ decimal x ++ codes " " ++ decimal level ++ codes "H" ++ decimal lane ++ codes "V" ++ decimal to_y ++ codes "H"
@@ -105,7 +105,7 @@ box_node x y width height look title = record {
   text = [];
 }
 
-abbrev pub path_node : Way → Look → List ℕ → Node
+abbrev pub path_node : Route → Look → List ℕ → Node
 path_node way look title = record {
   name = codes "path";
   attributes = (codes "d", way_text way) ∷ ((codes "class", look_word look) ∷ []);

@@ -4,8 +4,8 @@ use Rattle.std.specs.Str.{bytes_eq}
 use lib.Chars.{codes}
 use Rattle.report_reader.specs.Reports.{Line as Told}
 use Rattle.report_picture.specs.declared.picture.Drawn.{Drawn}
-use Rattle.report_picture.specs.declared.sources.Place.{Place}
-use Rattle.report_picture.specs.declared.sources.Place.TheVariants.{InPicture, InReport}
+use Rattle.report_picture.specs.declared.sources.Standing.{Standing}
+use Rattle.report_picture.specs.declared.sources.Standing.TheVariants.{InPicture, InReport}
 use Rattle.report_picture.specs.declared.sources.Sources.{Sources}
 use Rattle.report_picture.specs.declared.columns.Wanted.{Wanted}
 use Rattle.picture_parts.specs.LineWords.{tells, word}
@@ -77,7 +77,7 @@ outside wanted tags None = []
 outside wanted tags (Some line) = text_if (not (is_drawn wanted tags line)) line.1
 
 -- the line at a place, if it is drawn above this row or not drawn; else an empty one, which brings nothing about
-abbrev pub line_above : Wanted → List ℕ → List Told → List Drawn → ℕ → Place → List ℕ
+abbrev pub line_above : Wanted → List ℕ → List Told → List Drawn → ℕ → Standing → List ℕ
 line_above wanted tags lines drawn row (InPicture number) = above_row row (slice_get drawn number)
 line_above wanted tags lines drawn row (InReport number) = outside wanted tags (slice_get lines number)
 

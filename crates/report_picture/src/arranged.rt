@@ -1,38 +1,35 @@
 //! The lines of a picture, arranged.
 
-ghost use Rattle.std.specs.Prelude.{◌≡◌, IfOk, filter, true};
+ghost use Rattle.std.specs.Prelude.{◌≡◌, IfOk, filter, false, true};
 ghost use Rattle.report_reader.specs.Reading.{told_lines};
-ghost use Rattle.report_picture.specs.Order.{AreOrdered, StandBelow};
+ghost use Rattle.report_picture.specs.Order.{AreOrdered, StandBelow, StandFrom};
 ghost use Rattle.report_picture.specs.Pictures.{StandInColumns, StandInOrder, is_drawn, lines_in};
 
+use crate::arrows::Channels;
 use crate::causes::causes_of;
 use crate::columns::Wanted;
 use crate::notes::Note;
 use crate::order::order_of;
 use crate::picture::Drawn;
-use crate::placed::{drawn_as_told, drawn_in, is_drawn};
+use crate::placed::{drawn_in, is_drawn};
 use crate::presumed::sources_in;
 use crate::sources::{Sources, all_stand_below};
-use crate::told::Told;
+use crate::told::BookLines;
 use co_base::Memory;
 use gathered::{Gathered, filled, put};
 use picture_parts::Names;
 use report_reader::Line;
 use std::alloc::{AllocError, Global};
 
-/// The numbers of the lines of the books from the top down, and of each line its row: how many lines that are drawn stand above it.
+/// The lines of the books from the top down, those that are drawn, and whether each of these stands below what it presupposes.
 #[derive(Drop)]
-pub(crate) struct Rows {
+pub(crate) struct Arranged<'a> {
+    /// The numbers of the lines of the books from the top down.
     pub(crate) numbers: Vec<usize>,
+    /// Of each line of the books its row: how many lines that are drawn stand above it.
     pub(crate) rows: Vec<u32>,
     /// The row behind the last.
     pub(crate) end: u32,
-}
-
-/// The lines that are drawn, and whether each stands below what it presupposes.
-#[derive(Drop)]
-pub(crate) struct Arranged<'a> {
-    pub(crate) rows: Rows,
     pub(crate) drawn: Vec<Drawn<'a>>,
     pub(crate) in_order: bool,
 }
@@ -41,11 +38,11 @@ pub(crate) struct Arranged<'a> {
 #[derive(Clone, Copy)]
 pub(crate) struct Books<'s, 'a> {
     pub(crate) lines: &'s [Line<'a>],
-    pub(crate) told: &'s Told<'a>,
+    pub(crate) told: &'s BookLines<'a>,
+    /// The channels whose elements have arrows, and the arrows.
+    pub(crate) channels: &'s Channels<'a>,
     pub(crate) wanted: Wanted,
     pub(crate) tags: &'s [u32],
-    /// Of each line of the books the other coroutine that it concerns.
-    pub(crate) targets: &'s [Option<u32>],
     /// What a script says.
     pub(crate) names: Names<'a>,
 }
@@ -57,40 +54,22 @@ impl Books<'_, '_> {
     }
 }
 
-/// Puts a line into the row behind the last, and answers the row behind that.
-fn put_row(rows: &mut Vec<u32>, books: Books, number: usize, end: u32) -> u32 {
-    put(rows, number, end);
-    if books.is_drawn(&books.told.note(number)) {
-        end.saturating_add(1)
-    } else {
-        end
-    }
-}
-
 /// Gives each line its row, and answers the row behind the last.
 fn give_rows(rows: &mut Vec<u32>, books: Books, numbers: &[usize]) -> u32 {
     let mut end = 0u32;
     for number in numbers {
-        end = put_row(rows, books, *number, end);
+        put(rows, *number, end);
+        let is_drawn = books.is_drawn(&books.told.note(*number));
+        end = end.saturating_add(u32::from(is_drawn));
     }
     end
 }
 
-/// Of each line its row, from the numbers of the lines from the top down.
-fn rows_in(alloc: Global, books: Books, numbers: Vec<usize>) -> Result<Rows, AllocError> {
-    let mut rows = filled(alloc, 0u32, books.told.notes.len())?;
-    let end = give_rows(&mut rows, books, numbers.as_slice());
-    Ok(Rows { numbers, rows, end })
-}
-
-/// The rows in an order that the causes of the lines allow; where there is none, lines are missing.
-fn allowed_rows<'a>(alloc: Global, books: Books<'_, 'a>) -> Result<Rows, AllocError> {
-    let numbers = caused_order(alloc, books.told)?;
-    rows_in(alloc, books, numbers)
-}
-
 /// The numbers of the lines of the books in an order that their causes allow; where there is none, lines are missing.
-pub(crate) fn caused_order<'a>(alloc: Global, told: &Told<'a>) -> Result<Vec<usize>, AllocError> {
+pub(crate) fn caused_order<'a>(
+    alloc: Global,
+    told: &BookLines<'a>,
+) -> Result<Vec<usize>, AllocError> {
     let mut causes = causes_of(alloc, told)?;
     order_of(alloc, told.notes.len(), &mut causes)
 }
@@ -104,10 +83,17 @@ pub(crate) fn counted(alloc: Global, count: usize) -> Result<Vec<usize>, AllocEr
     numbers.whole()
 }
 
-/// The rows in the order of the report.
-fn told_rows<'a>(alloc: Global, books: Books<'_, 'a>) -> Result<Rows, AllocError> {
-    let numbers = counted(alloc, books.told.notes.len())?;
-    rows_in(alloc, books, numbers)
+/// The numbers of the lines in the order of the report, or in one that their causes allow.
+fn numbers_in<'a>(
+    alloc: Global,
+    told: &BookLines<'a>,
+    as_told: bool,
+) -> Result<Vec<usize>, AllocError> {
+    if as_told {
+        counted(alloc, told.notes.len())
+    } else {
+        caused_order(alloc, told)
+    }
 }
 
 /// Whether each of these lines stands below what it presupposes, which stands where its sources say.
@@ -117,73 +103,56 @@ fn stand_below<'a>(books: Books<'_, 'a>, drawn: &[Drawn<'a>], sources: &[Sources
     all_stand_below(books.wanted, books.tags, books.lines, drawn, sources)
 }
 
-/// Whether each of these lines is found to stand below what it presupposes.
+/// Whether each of these lines is found to stand below what it presupposes. Those in the order of the report are not looked at.
 fn is_allowed<'a>(
     alloc: Global,
     books: Books<'_, 'a>,
-    rows: &Rows,
+    as_told: bool,
+    rows: &[u32],
     drawn: &[Drawn<'a>],
 ) -> Result<bool, AllocError>
-    ensures { IfOk result (λ is. is ≡ true
+    ensures told { IfOk result (λ is. as_told ≡ true → is ≡ false) }
+    ensures allowed { IfOk result (λ is. is ≡ true
         → StandBelow books.entry.wanted books.entry.tags.now (told_lines books.entry.lines.now) drawn.now) }
 {
-    let sources = sources_in(alloc, books, rows.rows.as_slice())?;
+    if as_told {
+        return Ok(false);
+    }
+    let sources = sources_in(alloc, books, rows)?;
     Ok(stand_below(books, drawn, sources.as_slice()))
 }
 
-/// The lines in the order of the report.
-fn arranged_as_told<'a>(alloc: Global, books: Books<'_, 'a>) -> Result<Arranged<'a>, Memory>
+/// The lines in the order of the report; or in one that their causes allow, and whether each is found to stand below what it presupposes.
+/// Where no order has all of them, lines are missing.
+fn arranged_in<'a>(
+    alloc: Global,
+    books: Books<'_, 'a>,
+    as_told: bool,
+) -> Result<Arranged<'a>, Memory>
     ensures once { IfOk result (λ arranged.
         lines_in arranged.drawn.items ≡ filter (is_drawn books.entry.wanted books.entry.tags.now) (told_lines books.entry.lines.now)) }
     ensures columns { IfOk result (λ arranged. StandInColumns books.entry.tags.now arranged.drawn.items) }
     ensures order { IfOk result (λ arranged. StandInOrder arranged.drawn.items) }
-    ensures ordered { IfOk result (λ arranged.
-        AreOrdered arranged.in_order books.entry.wanted books.entry.tags.now (told_lines books.entry.lines.now) arranged.drawn.items) }
-{
-    let rows = told_rows(alloc, books)?;
-    let drawn = drawn_as_told(
-        alloc,
-        books.wanted,
-        books.tags,
-        books.lines,
-        books.targets,
-        books.names,
-    )?;
-    Ok(Arranged {
-        rows,
-        drawn,
-        in_order: false,
-    })
-}
-
-/// The lines in an order that their causes allow, and whether each is found to stand below what it presupposes.
-fn arranged_by_causes<'a>(alloc: Global, books: Books<'_, 'a>) -> Result<Arranged<'a>, Memory>
-    ensures once { IfOk result (λ arranged.
-        lines_in arranged.drawn.items ≡ filter (is_drawn books.entry.wanted books.entry.tags.now) (told_lines books.entry.lines.now)) }
-    ensures columns { IfOk result (λ arranged. StandInColumns books.entry.tags.now arranged.drawn.items) }
-    ensures order { IfOk result (λ arranged. StandInOrder arranged.drawn.items) }
+    ensures told { IfOk result (λ arranged. as_told ≡ true → (arranged.in_order ≡ false) × StandFrom 0 arranged.drawn.items) }
     ensures allowed { IfOk result (λ arranged. arranged.in_order ≡ true
         → StandBelow books.entry.wanted books.entry.tags.now (told_lines books.entry.lines.now) arranged.drawn.items) }
 {
-    let rows = allowed_rows(alloc, books)?;
-    let drawn = drawn_in(
-        alloc,
-        books.wanted,
-        books.tags,
-        books.lines,
-        rows.rows.as_slice(),
-        books.targets,
-        books.names,
-    )?;
-    let in_order = is_allowed(alloc, books, &rows, drawn.as_slice())?;
+    let numbers = numbers_in(alloc, books.told, as_told)?;
+    let mut rows = filled(alloc, 0u32, books.told.notes.len())?;
+    let end = give_rows(&mut rows, books, numbers.as_slice());
+    let drawn = drawn_in(alloc, books, rows.as_slice(), as_told)?;
+    let in_order = is_allowed(alloc, books, as_told, rows.as_slice(), drawn.as_slice())?;
     Ok(Arranged {
+        numbers,
         rows,
+        end,
         drawn,
         in_order,
     })
 }
 
 /// The lines, each below what it presupposes; where no order does, in the order of the report.
+#[tactic(auto, using(crate::proofs::Shows::are_allowed, crate::proofs::Shows::are_told))]
 pub(crate) fn arrange<'a>(alloc: Global, books: Books<'_, 'a>) -> Result<Arranged<'a>, Memory>
     ensures once { IfOk result (λ arranged.
         lines_in arranged.drawn.items ≡ filter (is_drawn books.entry.wanted books.entry.tags.now) (told_lines books.entry.lines.now)) }
@@ -192,20 +161,11 @@ pub(crate) fn arrange<'a>(alloc: Global, books: Books<'_, 'a>) -> Result<Arrange
     ensures ordered { IfOk result (λ arranged.
         AreOrdered arranged.in_order books.entry.wanted books.entry.tags.now (told_lines books.entry.lines.now) arranged.drawn.items) }
 {
-    let Arranged {
-        rows,
-        drawn,
-        in_order,
-    } = arranged_by_causes(alloc, books)?;
-    let all = rows.numbers.len() == books.told.notes.len();
-    if in_order {
-        if all {
-            return Ok(Arranged {
-                rows,
-                drawn,
-                in_order: true,
-            });
-        }
+    let caused = arranged_in(alloc, books, false)?;
+    let all = caused.numbers.len() == books.told.notes.len();
+    if all && caused.in_order {
+        return Ok(caused);
     }
-    arranged_as_told(alloc, books)
+    let told = arranged_in(alloc, books, true)?;
+    Ok(told)
 }

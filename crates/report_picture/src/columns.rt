@@ -2,7 +2,6 @@
 
 ghost use Rattle.std.specs.Prelude.{◌≡◌, IfOk, OnOk};
 ghost use Rattle.report_picture.specs.Pictures.{all_have_columns, has_column, is_new, tags_of, with_tag};
-ghost use Rattle.report_reader.specs.declared.line.Said.TheVariants.{Note};
 ghost use Rattle.report_reader.specs.Reading.{told_lines};
 
 use picture_parts::is_among;
@@ -37,19 +36,11 @@ fn add_tag(tags: &mut Vec<u32>, wanted: Wanted, said: Said) -> Result<(), AllocE
     ensures { OnOk result (tags.new.items ≡ with_tag wanted tags.old.items said) }
 {
     match said {
-        Said::Note(tag) => add_new(tags, wanted, tag),
-        Said::Job(_) | Said::Element => Ok(()),
-    }
-}
-
-fn add_new(tags: &mut Vec<u32>, wanted: Wanted, tag: u32) -> Result<(), AllocError>
-    ensures { OnOk result (tags.new.items ≡ with_tag wanted tags.old.items (Note tag)) }
-{
-    if is_new(wanted, tags.as_slice(), tag) {
-        tags.push(tag)?;
-        Ok(())
-    } else {
-        Ok(())
+        Said::Note(tag) if is_new(wanted, tags.as_slice(), tag) => {
+            tags.push(tag)?;
+            Ok(())
+        }
+        _ => Ok(()),
     }
 }
 

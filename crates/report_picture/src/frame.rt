@@ -5,10 +5,10 @@ use crate::layout::BAR;
 use crate::lives::hangs;
 use crate::looks::{Look, State};
 use crate::marks::{Marks, shown, untitled};
-use crate::picture::Way;
+use crate::picture::Route;
 use crate::sheet::Sheet;
-use gathered::{NOWHERE, at};
-use report_reader::{Line, Said, cut_at};
+use gathered::NOWHERE;
+use report_reader::{Said, cut_at};
 
 /// How wide an entry of the legend is, and how many there are in a row.
 const ENTRY: u64 = 190;
@@ -33,8 +33,6 @@ const LEGEND_ENTRIES: [(Look, &[u8]); 12] = [
     (Look::Joins, b"what brought it about"),
 ];
 
-const NO_ENTRY: (Look, &[u8]) = (Look::Label, b"");
-
 /// Where the heads begin below the legend, with so many channels.
 pub(crate) fn top_of(channels: usize) -> u32 {
     let rows = (channels.saturating_add(LEGEND_ENTRIES.len() + ENTRIES - 1)) / ENTRIES;
@@ -44,20 +42,14 @@ pub(crate) fn top_of(channels: usize) -> u32 {
 
 /// The legend: how each state, a wait and the arrows look.
 pub(crate) fn add_legend<'a>(marks: &mut Marks<'a>, channels: &[&'a [u8]]) {
-    for number in 0..LEGEND_ENTRIES.len() {
-        let (look, name) = at(&LEGEND_ENTRIES, number, NO_ENTRY);
-        add_entry(marks, number, look, (name, b""));
+    for (number, (look, name)) in LEGEND_ENTRIES.iter().enumerate() {
+        add_entry(marks, number, *look, (*name, b""));
     }
     for (number, name) in channels.iter().enumerate() {
-        add_channel(marks, number, *name);
+        let place = number.saturating_add(LEGEND_ENTRIES.len());
+        let look = Look::Brings(shade_of(number));
+        add_entry(marks, place, look, (b"channel ", *name));
     }
-}
-
-/// The entry of the channel with this number, behind the others.
-fn add_channel<'a>(marks: &mut Marks<'a>, number: usize, name: &'a [u8]) {
-    let place = number.saturating_add(LEGEND_ENTRIES.len());
-    let look = Look::Brings(shade_of(number));
-    add_entry(marks, place, look, (b"channel ", name));
 }
 
 /// An entry, by its number among all.
@@ -84,32 +76,27 @@ fn add_sample<'a>(marks: &mut Marks<'a>, x: u64, y: u64, look: Look) {
 }
 
 /// An arrow to the right, a cross, or a stretch down.
-fn sample_way(x: u64, y: u64, look: Look) -> Way {
+fn sample_way(x: u64, y: u64, look: Look) -> Route {
     let middle = y.saturating_sub(4);
     let center = x.saturating_add(BAR / 2);
     match look {
-        Look::Brings(_) | Look::Cancels | Look::Joins => Way::Bent {
+        Look::Brings(_) | Look::Cancels | Look::Joins => Route::Bent {
             x: x.saturating_sub(14),
             level: middle,
             lane: x,
             to_y: middle,
             to_x: x.saturating_add(BAR + 2),
         },
-        Look::Lost => Way::Cross {
+        Look::Lost => Route::Cross {
             x: center,
             y: middle,
         },
-        _ => Way::Down {
+        _ => Route::Down {
             x: center,
             from: y.saturating_sub(12),
             to: y.saturating_add(4),
         },
     }
-}
-
-/// What is said of a Job behind its row.
-fn said_of_job(text: &[u8]) -> &[u8] {
-    behind_word(behind_word(text))
 }
 
 /// What stands behind the first word of a text, if that is not its only one.
@@ -118,28 +105,12 @@ fn behind_word(text: &[u8]) -> &[u8] {
     rest.unwrap_or(text)
 }
 
-/// The foot of a column: how its Job ended, or how far it is, and that its coroutine waits, if it does.
-fn add_foot<'a>(marks: &mut Marks<'a>, sheet: &Sheet<'_, 'a>, row: u32, line: &'a [u8]) {
-    let place = (sheet.left_of(sheet.column(row)), feet_y(sheet));
-    let said = said_of_job(line);
-    if hangs(sheet, row) {
-        marks.add_text(place, Look::Hangs, (said, b", waits"), shown(line));
-    } else {
-        marks.add_text(place, Look::Foot, (said, b""), shown(line));
-    }
-}
-
 /// Where the feet of the columns are.
 fn feet_y(sheet: &Sheet) -> u64 {
     sheet.bottom().saturating_add(16)
 }
 
-/// Where the first Job without a column is.
-fn below_feet(sheet: &Sheet) -> u64 {
-    feet_y(sheet).saturating_add(24)
-}
-
-/// Where what is below the Job of this line is, if that is here; where it is else.
+/// Where what is below the Job of this line is, if that has no column here; where it is else.
 fn below_job(sheet: &Sheet, said: Said, y: u64) -> u64 {
     match said {
         Said::Job(row) if sheet.column(row) == NOWHERE => y.saturating_add(17),
@@ -148,30 +119,39 @@ fn below_job(sheet: &Sheet, said: Said, y: u64) -> u64 {
 }
 
 /// Where the picture ends: below the Jobs without a column.
-pub(crate) fn height_of(sheet: &Sheet, lines: &[Line]) -> u64 {
-    let mut y = below_feet(sheet);
-    for line in lines {
+pub(crate) fn height_of(sheet: &Sheet) -> u64 {
+    let mut y = feet_y(sheet).saturating_add(24);
+    for line in sheet.books.lines {
         y = below_job(sheet, line.said, y);
     }
     y
 }
 
-/// The foot of a line on a Job: that of its column, and of a Job without one here.
-fn add_job<'a>(marks: &mut Marks<'a>, sheet: &Sheet<'_, 'a>, line: &Line<'a>, y: u64) {
-    if let Said::Job(row) = line.said {
-        if sheet.column(row) == NOWHERE {
-            marks.add_text((36, y), Look::Label, (line.text, b""), shown(line.text));
-        } else {
-            add_foot(marks, sheet, row, line.text);
-        }
+/// What is told of a Job: at the foot of its column how it ended, or how far it is, and that its coroutine waits, if it does; of a Job
+/// without a column the whole line, here.
+fn add_job<'a>(marks: &mut Marks<'a>, sheet: &Sheet<'_, 'a>, row: u32, line: &'a [u8], y: u64) {
+    let column = sheet.column(row);
+    if column == NOWHERE {
+        marks.add_text((36, y), Look::Label, (line, b""), shown(line));
+        return;
     }
+    let place = (sheet.left_of(column), feet_y(sheet));
+    let said = behind_word(behind_word(line));
+    let (look, behind) = if hangs(sheet, row) {
+        (Look::Hangs, b", waits".as_slice())
+    } else {
+        (Look::Foot, b"".as_slice())
+    };
+    marks.add_text(place, look, (said, behind), shown(line));
 }
 
 /// The feet of the columns: how each Job ended, or how far it is. The Jobs without a column are below.
-pub(crate) fn add_feet<'a>(marks: &mut Marks<'a>, sheet: &Sheet<'_, 'a>, lines: &[Line<'a>]) {
-    let mut y = below_feet(sheet);
-    for line in lines {
-        add_job(marks, sheet, line, y);
+pub(crate) fn add_feet<'a>(marks: &mut Marks<'a>, sheet: &Sheet<'_, 'a>) {
+    let mut y = feet_y(sheet).saturating_add(24);
+    for line in sheet.books.lines {
+        if let Said::Job(row) = line.said {
+            add_job(marks, sheet, row, line.text, y);
+        }
         y = below_job(sheet, line.said, y);
     }
 }

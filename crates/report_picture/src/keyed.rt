@@ -1,7 +1,7 @@
 //! Numbers for keys.
 
 use gathered::NOWHERE;
-use std::alloc::{AllocError, Global};
+use std::alloc::Global;
 use std::collections::HashMap;
 use std::hash::Hash;
 
@@ -32,10 +32,5 @@ impl<K: Hash + Eq + Copy> Numbers<K> {
         if self.numbers.insert(key, number).is_err() {
             self.full = true;
         }
-    }
-
-    /// The numbers, if memory held all of them.
-    pub(crate) fn whole(self) -> Result<Numbers<K>, AllocError> {
-        if self.full { Err(AllocError) } else { Ok(self) }
     }
 }

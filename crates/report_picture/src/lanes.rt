@@ -3,13 +3,13 @@
 //! The arrows into a column are gone through from the top down. Each gets the first lane that is free over all its rows.
 
 use crate::arrows::Arrow;
-use crate::layout::{BAR, LEVEL, lane_x};
+use crate::layout::{BAR, LEVEL, NO_ROOM, Room, lane_x};
 use crate::looks::Look;
 use crate::marks::Marks;
-use crate::picture::Way;
+use crate::picture::Route;
 use crate::sheet::Sheet;
-use gathered::{Gathered, NOWHERE, at, filled, put};
-use std::alloc::{AllocError, Global};
+use gathered::{Gathered, NOWHERE, at, put};
+use std::alloc::Global;
 use std::collections::BinaryHeap;
 
 /// An arrow that is drawn: the column that it goes into, its lane, and the rows between which it goes down.
@@ -20,13 +20,6 @@ pub(crate) struct Laid {
     lane: u32,
     upper: u32,
     lower: u32,
-}
-
-/// The arrows that are drawn, and of each column how many lanes it has.
-#[derive(Drop)]
-pub(crate) struct Lanes {
-    pub(crate) laid: Vec<Laid>,
-    pub(crate) counts: Vec<u32>,
 }
 
 const NO_LAID: Laid = Laid {
@@ -66,27 +59,17 @@ fn both(first: u32, second: u32) -> u64 {
     u64::from(first) * 4_294_967_296 + u64::from(second)
 }
 
-/// The arrows that are drawn.
-fn all_laid<'a>(
-    alloc: Global,
-    sheet: &Sheet<'_, 'a>,
-    arrows: &[Arrow],
-) -> Result<Vec<Laid>, AllocError> {
-    let mut all = Gathered::new(alloc);
-    for arrow in arrows {
-        if is_laid(sheet, arrow) {
-            all.add(lay(sheet, *arrow));
-        }
-    }
-    all.whole()
+/// The arrows that are drawn, and of each column what it takes.
+#[derive(Drop)]
+pub(crate) struct Lanes {
+    pub(crate) laid: Gathered<Laid>,
+    pub(crate) rooms: Gathered<Room>,
 }
 
-/// The lanes of a column so far, and of each column how many it has. The heaps have their numbers turned round, so that the least comes
-/// first.
+/// The lanes of the column whose arrows get theirs. The heaps have their numbers turned round, so that the least comes first.
 #[derive(Drop)]
 struct Sweep {
     column: usize,
-    counts: Vec<u32>,
     /// The lanes that are free.
     free: BinaryHeap<u32>,
     /// The lanes that are not, each behind the row in which its arrow ends.
@@ -95,61 +78,41 @@ struct Sweep {
 }
 
 impl Sweep {
-    fn count(&self) -> u32 {
-        at(self.counts.as_slice(), self.column, 0)
-    }
-
-    /// Begins the next column.
-    fn begin(&mut self, column: usize) {
-        self.column = column;
-        self.free.clear();
-        self.busy.clear();
-    }
-
-    /// The lane that is free first, behind the row in which its arrow ends, both as one number.
-    fn next(&self) -> u64 {
-        u64::MAX - self.busy.peek().copied().unwrap_or(0)
-    }
-
-    /// Frees a lane.
-    fn free(&mut self, next: u64) {
-        self.busy.pop();
-        let lane = (next % 4_294_967_296) as u32;
-        if self.free.push(u32::MAX - lane).is_err() {
-            self.full = true;
-        }
-    }
-
     /// Frees the lanes of the arrows that end above this row.
     fn free_above(&mut self, row: u32) {
         for _ in 0..self.busy.len() {
-            let next = self.next();
+            let next = u64::MAX - self.busy.peek().copied().unwrap_or(0);
             if next >= both(row, 0) {
                 break;
             }
-            self.free(next);
+            self.busy.pop();
+            let lane = (next % 4_294_967_296) as u32;
+            if self.free.push(u32::MAX - lane).is_err() {
+                self.full = true;
+            }
         }
     }
 
     /// The first lane that is free, or one more.
-    fn take(&mut self) -> u32 {
-        match self.free.pop() {
-            Some(turned) => u32::MAX - turned,
-            None => {
-                let lane = self.count();
-                put(&mut self.counts, self.column, lane.saturating_add(1));
-                lane
-            }
+    fn take(&mut self, rooms: &mut Vec<Room>) -> u32 {
+        if let Some(turned) = self.free.pop() {
+            return u32::MAX - turned;
         }
+        let room = at(rooms.as_slice(), self.column, NO_ROOM);
+        let lanes = room.lanes.saturating_add(1);
+        put(rooms, self.column, Room { lanes, ..room });
+        room.lanes
     }
 
     /// The lane of the next arrow.
-    fn lane_for(&mut self, next: &Laid) -> u32 {
+    fn lane_for(&mut self, rooms: &mut Vec<Room>, next: &Laid) -> u32 {
         if next.column != self.column {
-            self.begin(next.column);
+            self.column = next.column;
+            self.free.clear();
+            self.busy.clear();
         }
         self.free_above(next.upper);
-        let lane = self.take();
+        let lane = self.take(rooms);
         if self.busy.push(u64::MAX - both(next.lower, lane)).is_err() {
             self.full = true;
         }
@@ -157,44 +120,42 @@ impl Sweep {
     }
 }
 
-fn new_sweep(alloc: Global, columns: usize) -> Result<Sweep, AllocError> {
-    let counts = filled(alloc, 0u32, columns)?;
-    Ok(Sweep {
+/// Sorts the arrows column by column, each column from the top down, gives each its lane, and tells whether memory held all of them.
+fn give_lanes(alloc: Global, laid: &mut Vec<Laid>, rooms: &mut Vec<Room>) -> bool {
+    let sorted = laid.sort_by_key(|one| (one.column, one.upper));
+    let mut sweep = Sweep {
         column: NOWHERE,
-        counts,
         free: BinaryHeap::new(alloc),
         busy: BinaryHeap::new(alloc),
-        full: false,
-    })
-}
-
-/// Gives each arrow its lane.
-fn give_lanes(laid: &mut Vec<Laid>, sweep: &mut Sweep) {
+        full: sorted.is_err(),
+    };
     for i in 0..laid.len() {
         let one = at(laid.as_slice(), i, NO_LAID);
-        let lane = sweep.lane_for(&one);
+        let lane = sweep.lane_for(rooms, &one);
         put(laid, i, Laid { lane, ..one });
     }
+    !sweep.full
 }
 
-/// Of each column how many lanes it has; the arrows are sorted column by column, each column from the top down, and get their lanes.
-fn counts_of(alloc: Global, laid: &mut Vec<Laid>, columns: usize) -> Result<Vec<u32>, AllocError> {
-    laid.sort_by_key(|one| (one.column, one.upper))?;
-    let mut sweep = new_sweep(alloc, columns)?;
-    give_lanes(laid, &mut sweep);
-    let Sweep { counts, full, .. } = sweep;
-    if full { Err(AllocError) } else { Ok(counts) }
-}
+impl Lanes {
+    pub(crate) fn new(alloc: Global) -> Lanes {
+        Lanes {
+            laid: Gathered::new(alloc),
+            rooms: Gathered::new(alloc),
+        }
+    }
 
-/// The arrows that are drawn, each in its lane.
-pub(crate) fn lanes_of<'a>(
-    alloc: Global,
-    sheet: &Sheet<'_, 'a>,
-    arrows: &[Arrow],
-) -> Result<Lanes, AllocError> {
-    let mut laid = all_laid(alloc, sheet, arrows)?;
-    let counts = counts_of(alloc, &mut laid, sheet.books.tags.len())?;
-    Ok(Lanes { laid, counts })
+    /// Adds the arrows that are drawn, each in its lane.
+    pub(crate) fn lay<'a>(&mut self, alloc: Global, plan: &Sheet<'_, 'a>) {
+        for arrow in plan.books.channels.arrows.as_slice() {
+            if is_laid(plan, arrow) {
+                self.laid.add(lay(plan, *arrow));
+            }
+        }
+        if !give_lanes(alloc, self.laid.as_mut(), self.rooms.as_mut()) {
+            self.laid.full = true;
+        }
+    }
 }
 
 /// Where an arrow begins: below its line, or, if that stands above the first row, at the edge in its lane.
@@ -210,24 +171,19 @@ fn start_of<'a>(sheet: &Sheet<'_, 'a>, from: usize, lane: u64) -> (u64, u64) {
     }
 }
 
-/// An arrow.
-fn add_way<'a>(marks: &mut Marks<'a>, sheet: &Sheet<'_, 'a>, one: &Laid) {
-    let left = sheet.left_of(one.column);
-    let lane = lane_x(left, one.lane);
-    let (x, level) = start_of(sheet, one.arrow.from, lane);
-    let way = Way::Bent {
-        x,
-        level,
-        lane,
-        to_y: sheet.y(one.arrow.to),
-        to_x: left.saturating_sub(1),
-    };
-    marks.add_path(way, one.arrow.look, sheet.title_at(one.arrow.from));
-}
-
 /// The arrows.
 pub(crate) fn add_ways<'a>(marks: &mut Marks<'a>, sheet: &Sheet<'_, 'a>, laid: &[Laid]) {
     for one in laid {
-        add_way(marks, sheet, one);
+        let left = sheet.left_of(one.column);
+        let lane = lane_x(left, one.lane);
+        let (x, level) = start_of(sheet, one.arrow.from, lane);
+        let way = Route::Bent {
+            x,
+            level,
+            lane,
+            to_y: sheet.y(one.arrow.to),
+            to_x: left.saturating_sub(1),
+        };
+        marks.add_path(way, one.arrow.look, sheet.title_at(one.arrow.from));
     }
 }

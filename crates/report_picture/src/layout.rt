@@ -6,9 +6,8 @@ ghost use Rattle.report_picture.specs.Pictures.{StandBeside, last_text};
 
 use crate::picture::Column;
 use co_base::Memory;
-use gathered::at;
+use gathered::{at, put};
 use report_reader::cut_at;
-use std::alloc::Global;
 
 /// How wide the bar of a life is.
 pub(crate) const BAR: u64 = 10;
@@ -80,6 +79,22 @@ fn further(x: u64, by: u64) -> Result<u64, Memory>
     }
 }
 
+/// What a column takes: so many lanes, and texts of so many bytes.
+#[derive(Clone, Copy)]
+pub(crate) struct Room {
+    pub(crate) lanes: u32,
+    pub(crate) bytes: usize,
+}
+
+pub(crate) const NO_ROOM: Room = Room { lanes: 0, bytes: 0 };
+
+/// Makes room in a column for a text of so many bytes.
+pub(crate) fn widen(rooms: &mut Vec<Room>, column: usize, bytes: usize) {
+    let room = at(rooms.as_slice(), column, NO_ROOM);
+    let bytes = room.bytes.max(bytes);
+    put(rooms, column, Room { bytes, ..room });
+}
+
 /// Adds the column of a coroutine to the right of the others, and answers where its texts begin.
 #[tactic(auto, using(crate::proofs::Beside::beside_more, crate::proofs::Beside::last_of_more))]
 fn push_column(columns: &mut Vec<Column>, tag: u32, lanes: u32, edge: u64) -> Result<u64, Memory>
@@ -95,40 +110,25 @@ fn push_column(columns: &mut Vec<Column>, tag: u32, lanes: u32, edge: u64) -> Re
     Ok(text)
 }
 
-/// The columns of these coroutines, from left to right.
-pub(crate) fn columns_of(
-    alloc: Global,
+/// Adds the columns of these coroutines, from left to right, and answers where the texts of the last end.
+pub(crate) fn add_columns(
+    columns: &mut Vec<Column>,
     tags: &[u32],
-    lanes: &[u32],
-    widths: &[usize],
-) -> Result<Vec<Column>, Memory>
-    ensures tags { IfOk result (λ columns. map (λ c. c.tag) columns.items ≡ tags.now) }
-    ensures beside { IfOk result (λ columns. StandBeside 0 columns.items) }
+    rooms: &[Room],
+) -> Result<u64, Memory>
+    requires { columns.old.items ≡ [] }
+    ensures tags { OnOk result (map (λ c. c.tag) columns.new.items ≡ tags.now) }
+    ensures beside { OnOk result (StandBeside 0 columns.new.items) }
 {
-    let mut columns = Vec::new(alloc);
     let mut edge = 0u64;
     let mut rest = tags;
     let mut i = 0usize;
     while let [tag, more @ ..] = rest {
-        let text = push_column(&mut columns, *tag, at(lanes, i, 0), edge)?;
-        edge = further(text, width_at(widths, i))?;
+        let room = at(rooms, i, NO_ROOM);
+        let text = push_column(columns, *tag, room.lanes, edge)?;
+        edge = further(text, text_width(room.bytes))?;
         i = i.saturating_add(1);
         rest = more;
     }
-    Ok(columns)
-}
-
-/// How wide the texts of a column are.
-fn width_at(widths: &[usize], i: usize) -> u64 {
-    text_width(at(widths, i, 0))
-}
-
-/// How wide the columns are together.
-pub(crate) fn total_width(columns: &[Column], widths: &[usize]) -> u64 {
-    match columns.last() {
-        Some(column) => column
-            .text
-            .saturating_add(width_at(widths, columns.len().saturating_sub(1))),
-        None => 0,
-    }
+    Ok(edge)
 }

@@ -24,6 +24,7 @@
 //! - `layout`: where rows, columns and texts are.
 //! - `sheet`: what the marks are made of.
 //! - `marks`: marks, added one by one.
+//! - `jobs`: what the Jobs go through.
 //! - `lives`: the lives of the coroutines, and their waits.
 //! - `arrows`: the arrows of elements and of cancellations, and from what brought a line about.
 //! - `lanes`: where arrows go down.
@@ -55,6 +56,7 @@ mod drawing;
 mod events;
 mod fates;
 mod frame;
+mod jobs;
 mod keyed;
 mod lanes;
 mod layout;
@@ -78,6 +80,6 @@ pub use document::svg;
 pub use drawing::{Drawing, draw};
 pub use events::trace_text;
 pub use looks::{Look, Shade, State};
-pub use picture::{Column, Drawn, Lost, Mark, Picture, Spot, Title, Way};
-pub use sources::{Place, Sources};
+pub use picture::{Column, Drawn, Lost, Mark, Picture, Route, Spot, Title};
+pub use sources::{Sources, Standing};
 pub use trace::{Event, Happening, Moment, Trace, Tracing, Track, trace_of};

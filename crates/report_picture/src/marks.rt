@@ -1,7 +1,7 @@
 //! Marks, added one by one.
 
 use crate::looks::Look;
-use crate::picture::{Mark, Title, Way};
+use crate::picture::{Mark, Route, Title};
 use gathered::Gathered;
 use std::alloc::{AllocError, Global};
 
@@ -20,13 +20,6 @@ pub(crate) fn shown<'a>(line: &'a [u8]) -> Title<'a> {
 pub(crate) struct Marks<'a> {
     alloc: Global,
     marks: Gathered<Mark<'a>>,
-}
-
-/// One text behind another.
-fn joined(alloc: Global, first: &[u8], second: &[u8]) -> Result<Vec<u8>, AllocError> {
-    let mut text = Vec::from_slice(alloc, first)?;
-    text.extend_from_slice(second)?;
-    Ok(text)
 }
 
 impl<'a> Marks<'a> {
@@ -59,7 +52,7 @@ impl<'a> Marks<'a> {
         });
     }
 
-    pub(crate) fn add_path(&mut self, way: Way, look: Look, title: Title<'a>) {
+    pub(crate) fn add_path(&mut self, way: Route, look: Look, title: Title<'a>) {
         self.marks.add(Mark::Path { way, look, title });
     }
 
@@ -71,7 +64,7 @@ impl<'a> Marks<'a> {
         texts: (&[u8], &[u8]),
         title: Title<'a>,
     ) {
-        match joined(self.alloc, texts.0, texts.1) {
+        match [texts.0, texts.1].concat(self.alloc) {
             Ok(text) => self.marks.add(Mark::Text {
                 x: place.0,
                 y: place.1,

@@ -1,38 +1,8 @@
-//! What the lines of the books say, as far as a picture shows it.
+//! What the lines of the books say, as far as a picture shows it, and to which other lines they lead.
 
-use crate::looks::State;
-use gathered::{Gathered, at};
+use crate::looks::{Look, State};
+use gathered::{NOWHERE, at};
 use report_reader::{Line, Said, value_of, words_of};
-use std::alloc::{AllocError, Global};
-
-/// The first word of a line behind its tag.
-#[derive(Clone, Copy)]
-pub(crate) enum Verb {
-    Hand,
-    Put,
-    Offer,
-    Await,
-    Take,
-    Admit,
-    Drop,
-    Spurn,
-    Drain,
-    WakeClosed,
-    Close,
-    Refused,
-    Settle,
-    Withdraw,
-    Late,
-    Attach,
-    Start,
-    EndBody,
-    Cancel,
-    Finish,
-    Gone,
-    Saw,
-    SawEnd,
-    Other,
-}
 
 /// What a line can say: of a place of a channel, of a wait, of a channel, or of the row of a Job.
 #[derive(Clone, Copy)]
@@ -62,39 +32,63 @@ pub(crate) enum Fact {
     Nothing,
 }
 
-/// How a Job ended, why it was cancelled, or what sort of Job was attached.
+/// Of what a line says it.
 #[derive(Clone, Copy)]
-pub(crate) enum How {
-    Plain,
-    Lazy,
-    Completed,
-    Cancelled,
-    /// Cancelled by a child that failed.
-    Child,
-    /// Cancelled with its parent.
-    Parent,
+pub(crate) enum Of {
+    /// Of its subject: a place of a channel, a channel, or a row.
+    Subject,
+    /// Of the other row that it names: a parent's, or that of a child that failed.
     Other,
+    Wait,
+    /// Of the coroutine in whose book it stands.
+    Own,
 }
 
-const HOWS: [(&[u8], How); 6] = [
-    (b"plain", How::Plain),
-    (b"lazy", How::Lazy),
-    (b"completed", How::Completed),
-    (b"cancelled", How::Cancelled),
-    (b"child", How::Child),
-    (b"parent", How::Parent),
-];
+/// A step from a line to the line that says this of the same: the first of these facts that is said.
+pub(crate) type Step = (&'static [Fact], Of);
 
-fn how_of(word: &[u8]) -> How {
-    for (name, how) in &HOWS {
-        if word == *name {
-            return *how;
-        }
-    }
-    How::Other
-}
+/// The steps from a line to another; none stay at the line.
+pub(crate) type Steps = &'static [Step];
 
-/// Which words of a line are what, by their numbers; 0, which is the tag, where its verb has none.
+const ATTACHED: Step = (&[Fact::Attaches], Of::Subject);
+
+const STARTED: Step = (&[Fact::Starts], Of::Subject);
+
+const BEGUN: Step = (&[Fact::First], Of::Subject);
+
+const CANCELLED: Step = (&[Fact::Cancels], Of::Subject);
+
+const OTHER_CANCELLED: Step = (&[Fact::Cancels], Of::Other);
+
+const FINISHED: Step = (&[Fact::Finishes], Of::Subject);
+
+const OTHER_FINISHED: Step = (&[Fact::Finishes], Of::Other);
+
+const BROUGHT: Step = (&[Fact::Brings], Of::Subject);
+
+const AWAITED: Step = (&[Fact::Awaits], Of::Subject);
+
+const ADMITTED: Step = (&[Fact::Admits], Of::Subject);
+
+const TAKEN: Step = (&[Fact::Takes], Of::Subject);
+
+const CLOSED: Step = (&[Fact::Closes], Of::Subject);
+/// What resolved an offer, and a wait to receive.
+const SENT: Step = (&[Fact::Admits, Fact::Takes, Fact::GivesUp], Of::Subject);
+
+const RECEIVED: Step = (&[Fact::Brings, Fact::Wakes], Of::Subject);
+
+const SETTLED: Step = (&[Fact::Settles], Of::Wait);
+
+const LATE: Step = (&[Fact::Late], Of::Wait);
+
+const HERE: Steps = &[];
+
+const NOT_THERE: Steps = &[(&[], Of::Own)];
+/// To where the receiver goes on that waited at the place.
+const GONE_ON: Steps = &[AWAITED, SETTLED];
+
+/// Which words of a line are what, by their numbers, and of what it says its fact.
 #[derive(Clone, Copy)]
 struct Parts {
     channel: usize,
@@ -102,16 +96,16 @@ struct Parts {
     wait: usize,
     row: usize,
     other: usize,
-    how: usize,
+    of: Of,
 }
 
 const NO_PARTS: Parts = Parts {
-    channel: 0,
-    place: 0,
-    wait: 0,
-    row: 0,
-    other: 0,
-    how: 0,
+    channel: NOWHERE,
+    place: NOWHERE,
+    wait: NOWHERE,
+    row: NOWHERE,
+    other: NOWHERE,
+    of: Of::Subject,
 };
 
 const CHANNEL: Parts = Parts {
@@ -130,58 +124,338 @@ const AWAIT: Parts = Parts { wait: 4, ..PLACE };
 
 const WAIT: Parts = Parts {
     wait: 2,
+    of: Of::Wait,
     ..NO_PARTS
 };
 
 const ROW: Parts = Parts { row: 2, ..NO_PARTS };
 
-const FINISH: Parts = Parts { how: 3, ..ROW };
+const ROWS: Parts = Parts { other: 4, ..ROW };
 
-const CANCEL: Parts = Parts { other: 4, ..FINISH };
+/// What a line of a book says, by its words.
+#[derive(Clone, Copy)]
+pub(crate) struct Verb {
+    pub(crate) fact: Fact,
+    parts: Parts,
+    /// The state that it brings the Job of its row to.
+    state: Option<State>,
+    /// Whether it attaches the Job of a coroutine, and not that of a scope.
+    pub(crate) launches: bool,
+    /// Whether it places a wait.
+    pub(crate) waits: bool,
+    /// Pairs of lines of which the first stands above the second.
+    pub(crate) causes: &'static [(Steps, Steps)],
+    /// The arrows that it tells of, besides that of the element that it brought.
+    pub(crate) arrows: &'static [(Steps, Steps, Look)],
+    /// To the line that got the element that it brought.
+    pub(crate) got: Steps,
+    /// To the line that resolved the wait that it placed or withdrew.
+    pub(crate) resolved: Steps,
+    /// To the line that tells whom it concerns, and what of that.
+    pub(crate) target: (Steps, Of),
+}
 
-const ATTACH: Parts = Parts {
-    other: 4,
-    how: 7,
-    ..ROW
+const OTHER: Verb = Verb {
+    fact: Fact::Nothing,
+    parts: NO_PARTS,
+    state: None,
+    launches: false,
+    waits: false,
+    causes: &[],
+    arrows: &[],
+    got: NOT_THERE,
+    resolved: NOT_THERE,
+    target: (HERE, Of::Own),
 };
 
-const VERBS: [(&[u8], Verb, Fact, Parts); 26] = [
-    (b"hand", Verb::Hand, Fact::Brings, PLACE),
-    (b"put", Verb::Put, Fact::Brings, PLACE),
-    (b"offer", Verb::Offer, Fact::Brings, OFFER),
-    (b"await", Verb::Await, Fact::Awaits, AWAIT),
-    (b"take", Verb::Take, Fact::Takes, PLACE),
-    (b"admit", Verb::Admit, Fact::Admits, PLACE),
-    (b"drop", Verb::Drop, Fact::GivesUp, PLACE),
-    (b"spurn", Verb::Spurn, Fact::GivesUp, PLACE),
-    (b"drain", Verb::Drain, Fact::GivesUp, PLACE),
-    (b"wakeclosed", Verb::WakeClosed, Fact::Wakes, PLACE),
-    (b"close", Verb::Close, Fact::Closes, CHANNEL),
-    (b"sendclosed", Verb::Refused, Fact::Nothing, CHANNEL),
-    (b"trysendclosed", Verb::Refused, Fact::Nothing, CHANNEL),
-    (b"receiveclosed", Verb::Refused, Fact::Nothing, CHANNEL),
-    (b"tryreceiveclosed", Verb::Refused, Fact::Nothing, CHANNEL),
-    (b"settle", Verb::Settle, Fact::Settles, WAIT),
-    (b"withdraw", Verb::Withdraw, Fact::Nothing, WAIT),
-    (b"late", Verb::Late, Fact::Late, WAIT),
-    (b"attach", Verb::Attach, Fact::Attaches, ATTACH),
-    (b"start", Verb::Start, Fact::Starts, ROW),
-    (b"endbody", Verb::EndBody, Fact::Nothing, ROW),
-    (b"cancel", Verb::Cancel, Fact::Cancels, CANCEL),
-    (b"finish", Verb::Finish, Fact::Finishes, FINISH),
-    (b"gone", Verb::Gone, Fact::Nothing, ROW),
-    (b"saw", Verb::Saw, Fact::Nothing, ROW),
-    (b"sawend", Verb::SawEnd, Fact::Nothing, ROW),
+const HAND: Verb = Verb {
+    fact: Fact::Brings,
+    parts: PLACE,
+    causes: &[(&[AWAITED], HERE)],
+    got: GONE_ON,
+    target: (&[AWAITED], Of::Own),
+    ..OTHER
+};
+
+const PUT: Verb = Verb {
+    fact: Fact::Brings,
+    parts: PLACE,
+    got: &[TAKEN],
+    ..OTHER
+};
+
+const OFFERS: Verb = Verb {
+    parts: OFFER,
+    waits: true,
+    causes: &[(&[SENT], &[SETTLED]), (&[SENT], &[LATE])],
+    arrows: &[(&[SENT], &[SETTLED], Look::Joins)],
+    resolved: &[SENT],
+    ..PUT
+};
+
+const AWAITS: Verb = Verb {
+    fact: Fact::Awaits,
+    parts: AWAIT,
+    waits: true,
+    causes: &[(&[RECEIVED], &[SETTLED]), (&[RECEIVED], &[LATE])],
+    resolved: &[RECEIVED],
+    ..OTHER
+};
+
+const TAKE: Verb = Verb {
+    fact: Fact::Takes,
+    parts: PLACE,
+    causes: &[(&[BROUGHT], HERE), (&[ADMITTED], HERE)],
+    ..OTHER
+};
+
+const ADMIT: Verb = Verb {
+    fact: Fact::Admits,
+    parts: PLACE,
+    causes: &[(&[BROUGHT], HERE)],
+    target: (&[BROUGHT], Of::Own),
+    ..OTHER
+};
+
+/// A drop, a spurn or a drain.
+const DROP: Verb = Verb {
+    fact: Fact::GivesUp,
+    parts: PLACE,
+    causes: &[(&[BROUGHT], HERE)],
+    ..OTHER
+};
+
+const WAKE_CLOSED: Verb = Verb {
+    fact: Fact::Wakes,
+    parts: PLACE,
+    causes: &[(&[AWAITED], HERE)],
+    arrows: &[(HERE, GONE_ON, Look::Joins)],
+    target: (&[AWAITED], Of::Own),
+    ..OTHER
+};
+
+const CLOSE: Verb = Verb {
+    fact: Fact::Closes,
+    parts: CHANNEL,
+    ..OTHER
+};
+
+/// A call that found its channel closed.
+const CLOSED_ANSWER: Verb = Verb {
+    parts: CHANNEL,
+    causes: &[(&[CLOSED], HERE)],
+    ..OTHER
+};
+
+const SETTLE: Verb = Verb {
+    fact: Fact::Settles,
+    parts: WAIT,
+    ..OTHER
+};
+
+const WITHDRAW: Verb = Verb {
+    parts: WAIT,
+    resolved: HERE,
+    ..OTHER
+};
+
+const COMES_LATE: Verb = Verb {
+    fact: Fact::Late,
+    parts: WAIT,
+    ..OTHER
+};
+
+/// Attaches the Job of a scope, where its word is no other.
+const ATTACH: Verb = Verb {
+    fact: Fact::Attaches,
+    parts: ROWS,
+    state: Some(State::Active),
+    causes: &[(HERE, &[CANCELLED]), (HERE, &[STARTED])],
+    target: (HERE, Of::Subject),
+    ..OTHER
+};
+
+const ATTACH_LAZY: Verb = Verb {
+    state: Some(State::New),
+    launches: true,
+    causes: &[(HERE, &[BEGUN]), (HERE, &[CANCELLED]), (HERE, &[STARTED])],
+    ..ATTACH
+};
+
+const ATTACH_PLAIN: Verb = Verb {
+    state: Some(State::Active),
+    arrows: &[(HERE, &[BEGUN], Look::Joins)],
+    ..ATTACH_LAZY
+};
+
+const START: Verb = Verb {
+    fact: Fact::Starts,
+    parts: ROW,
+    state: Some(State::Active),
+    causes: &[(HERE, &[BEGUN])],
+    arrows: &[(HERE, &[BEGUN], Look::Joins)],
+    target: (HERE, Of::Subject),
+    ..OTHER
+};
+
+const END_BODY: Verb = Verb {
+    parts: ROW,
+    state: Some(State::Completing),
+    causes: &[(HERE, &[FINISHED])],
+    ..OTHER
+};
+
+const CANCEL: Verb = Verb {
+    fact: Fact::Cancels,
+    parts: ROWS,
+    state: Some(State::Cancelling),
+    target: (HERE, Of::Subject),
+    ..OTHER
+};
+
+/// Cancelled by a child that failed, and with its parent.
+const CANCEL_BY_CHILD: Verb = Verb {
+    causes: &[(&[OTHER_CANCELLED], HERE)],
+    ..CANCEL
+};
+
+const CANCEL_BY_PARENT: Verb = Verb {
+    causes: &[(&[ATTACHED, OTHER_CANCELLED], HERE)],
+    ..CANCEL
+};
+
+/// Finished as failed, where its word is no other.
+const FINISH: Verb = Verb {
+    fact: Fact::Finishes,
+    parts: ROW,
+    state: Some(State::Failed),
+    ..OTHER
+};
+
+const FINISH_COMPLETED: Verb = Verb {
+    state: Some(State::Completed),
+    ..FINISH
+};
+
+const FINISH_CANCELLED: Verb = Verb {
+    state: Some(State::Cancelled),
+    ..FINISH
+};
+
+const GONE: Verb = Verb {
+    parts: ROW,
+    causes: &[(HERE, &[ATTACHED, OTHER_FINISHED])],
+    target: (&[ATTACHED], Of::Other),
+    ..OTHER
+};
+
+const SAW: Verb = Verb {
+    parts: ROW,
+    causes: &[(&[CANCELLED], HERE)],
+    arrows: &[(&[CANCELLED], HERE, Look::Cancels)],
+    ..OTHER
+};
+
+const SAW_END: Verb = Verb {
+    parts: ROW,
+    causes: &[(&[FINISHED], HERE)],
+    ..OTHER
+};
+
+/// The words of each verb: its own, and that for how it is, with the number of that; of those with the same word those that ask for a word
+/// for how it is come first.
+const WORDS: [(&[u8], &[u8], usize); 32] = [
+    (b"hand", b"", NOWHERE),
+    (b"put", b"", NOWHERE),
+    (b"offer", b"", NOWHERE),
+    (b"await", b"", NOWHERE),
+    (b"take", b"", NOWHERE),
+    (b"admit", b"", NOWHERE),
+    (b"drop", b"", NOWHERE),
+    (b"spurn", b"", NOWHERE),
+    (b"drain", b"", NOWHERE),
+    (b"wakeclosed", b"", NOWHERE),
+    (b"close", b"", NOWHERE),
+    (b"sendclosed", b"", NOWHERE),
+    (b"trysendclosed", b"", NOWHERE),
+    (b"receiveclosed", b"", NOWHERE),
+    (b"tryreceiveclosed", b"", NOWHERE),
+    (b"settle", b"", NOWHERE),
+    (b"withdraw", b"", NOWHERE),
+    (b"late", b"", NOWHERE),
+    (b"attach", b"plain", 7),
+    (b"attach", b"lazy", 7),
+    (b"attach", b"", NOWHERE),
+    (b"start", b"", NOWHERE),
+    (b"endbody", b"", NOWHERE),
+    (b"cancel", b"child", 3),
+    (b"cancel", b"parent", 3),
+    (b"cancel", b"", NOWHERE),
+    (b"finish", b"completed", 3),
+    (b"finish", b"cancelled", 3),
+    (b"finish", b"", NOWHERE),
+    (b"gone", b"", NOWHERE),
+    (b"saw", b"", NOWHERE),
+    (b"sawend", b"", NOWHERE),
 ];
 
-/// The verb of a word, what its line says, and where its parts stand.
-fn verb_of(word: &[u8]) -> (Verb, Fact, Parts) {
-    for (name, verb, fact, parts) in &VERBS {
-        if word == *name {
-            return (*verb, *fact, *parts);
+/// The verbs, in the order of their words.
+static VERBS: [Verb; 32] = [
+    HAND,
+    PUT,
+    OFFERS,
+    AWAITS,
+    TAKE,
+    ADMIT,
+    DROP,
+    DROP,
+    DROP,
+    WAKE_CLOSED,
+    CLOSE,
+    CLOSED_ANSWER,
+    CLOSED_ANSWER,
+    CLOSED_ANSWER,
+    CLOSED_ANSWER,
+    SETTLE,
+    WITHDRAW,
+    COMES_LATE,
+    ATTACH_PLAIN,
+    ATTACH_LAZY,
+    ATTACH,
+    START,
+    END_BODY,
+    CANCEL_BY_CHILD,
+    CANCEL_BY_PARENT,
+    CANCEL,
+    FINISH_COMPLETED,
+    FINISH_CANCELLED,
+    FINISH,
+    GONE,
+    SAW,
+    SAW_END,
+];
+
+/// What a line says that has none of them.
+static NO_VERB: Verb = OTHER;
+
+/// The number of the verb of a line of these words.
+fn verb_number(words: &[&[u8]]) -> usize {
+    let word = at(words, 1, b"");
+    for (number, (name, how, how_at)) in WORDS.iter().enumerate() {
+        if word == *name && at(words, *how_at, b"") == *how {
+            return number;
         }
     }
-    (Verb::Other, Fact::Nothing, NO_PARTS)
+    NOWHERE
+}
+
+/// The verb with this number.
+fn verb_at(number: usize) -> &'static Verb {
+    if number < VERBS.len() {
+        &VERBS[number]
+    } else {
+        &NO_VERB
+    }
 }
 
 /// The line of a book, taken apart. What its verb does not have is 0, or empty.
@@ -190,8 +464,7 @@ pub(crate) struct Note<'a> {
     pub(crate) text: &'a [u8],
     /// The coroutine.
     pub(crate) tag: u32,
-    pub(crate) verb: Verb,
-    pub(crate) fact: Fact,
+    pub(crate) verb: &'static Verb,
     /// The channel and the place.
     pub(crate) channel: &'a [u8],
     pub(crate) place: &'a [u8],
@@ -201,52 +474,53 @@ pub(crate) struct Note<'a> {
     pub(crate) row: u32,
     /// The other row: a parent's, or that of a child that failed.
     pub(crate) other: u32,
-    /// How a Job ended, why it was cancelled, or what sort of Job was attached.
-    pub(crate) how: How,
     /// The Job is attached as cancelled.
     pub(crate) cancelled: bool,
 }
 
-/// That of no line.
+/// What no line says. The Job that none attached is the root's, which is that of a coroutine.
+const NO_LINE: Verb = Verb {
+    launches: true,
+    ..OTHER
+};
+
+/// That of no line: its words are such as no line has.
 pub(crate) const NO_NOTE: Note<'static> = Note {
     text: b"",
-    tag: 0,
-    verb: Verb::Other,
-    fact: Fact::Nothing,
-    channel: b"",
-    place: b"",
-    wait: b"",
+    tag: u32::MAX,
+    verb: &NO_LINE,
+    channel: b" ",
+    place: b" ",
+    wait: b" ",
     row: 0,
     other: 0,
-    how: How::Other,
     cancelled: false,
 };
 
-/// The word with this number; none has 0.
-fn part_at<'a>(words: &[&'a [u8]], i: usize) -> &'a [u8] {
-    if i == 0 { b"" } else { at(words, i, b"") }
+fn number_at<'a>(words: &[&'a [u8]], i: usize) -> u32 {
+    let word: &'a [u8] = at(words, i, b"");
+    value_of(word).unwrap_or(0)
 }
 
-fn number_at(words: &[&[u8]], i: usize) -> u32 {
-    value_of(part_at(words, i)).unwrap_or(0)
-}
-
-fn note_of<'a>(tag: u32, text: &'a [u8], words: &[&'a [u8]]) -> Note<'a> {
-    let (verb, fact, parts) = verb_of(at(words, 1, b""));
+/// Takes the line of a book apart.
+pub(crate) fn note_of<'a>(tag: u32, text: &'a [u8], words: &[&'a [u8]]) -> Note<'a> {
+    let verb = verb_at(verb_number(words));
+    let parts = verb.parts;
     Note {
         text,
         tag,
         verb,
-        fact,
-        channel: part_at(words, parts.channel),
-        place: part_at(words, parts.place),
-        wait: part_at(words, parts.wait),
+        channel: at(words, parts.channel, b""),
+        place: at(words, parts.place, b""),
+        wait: at(words, parts.wait, b""),
         row: number_at(words, parts.row),
         other: number_at(words, parts.other),
-        how: how_of(part_at(words, parts.how)),
-        cancelled: matches!(verb, Verb::Attach) && words.len() > 8,
+        cancelled: matches!(verb.fact, Fact::Attaches) && words.len() > 8,
     }
 }
+
+/// What is said, and of what: a row, or a channel and a place, or a wait in that of a place.
+pub(crate) type Key<'a> = (usize, u32, &'a [u8], &'a [u8]);
 
 impl<'a> Note<'a> {
     /// The line itself.
@@ -257,75 +531,28 @@ impl<'a> Note<'a> {
         }
     }
 
-    /// Whether it attaches the Job of a coroutine, and not that of a scope.
-    pub(crate) fn launches(&self) -> bool {
-        matches!(self.verb, Verb::Attach) && matches!(self.how, How::Plain | How::Lazy)
-    }
-
-    /// Whether it attaches a Job that is to be started.
-    pub(crate) fn is_lazy(&self) -> bool {
-        matches!(self.how, How::Lazy)
-    }
-
-    /// Whether it places a wait.
-    pub(crate) fn waits(&self) -> bool {
-        matches!(self.verb, Verb::Offer | Verb::Await)
-    }
-
-    /// Whether the wait that it places is that of another line of its book.
-    pub(crate) fn waits_as(&self, other: &Note<'_>) -> bool {
-        self.tag == other.tag && self.wait == other.wait
-    }
-
-    /// The state in which it attaches a Job.
-    fn attached(&self) -> State {
-        if self.cancelled {
-            State::Cancelling
-        } else if self.is_lazy() {
-            State::New
-        } else {
-            State::Active
-        }
-    }
-
-    /// The state in which a Job ends by it.
-    fn finished(&self) -> State {
-        match self.how {
-            How::Completed => State::Completed,
-            How::Cancelled => State::Cancelled,
-            _ => State::Failed,
-        }
-    }
-
     /// The state that it brings the Job of its row to, if it does.
     pub(crate) fn state(&self) -> Option<State> {
-        match self.verb {
-            Verb::Attach => Some(self.attached()),
-            Verb::Start => Some(State::Active),
-            Verb::EndBody => Some(State::Completing),
-            Verb::Cancel => Some(State::Cancelling),
-            Verb::Finish => Some(self.finished()),
-            _ => None,
+        if self.cancelled {
+            Some(State::Cancelling)
+        } else {
+            self.verb.state
         }
     }
-}
 
-/// The lines of the books, each taken apart.
-pub(crate) fn notes_in<'a>(alloc: Global, lines: &[Line<'a>]) -> Result<Vec<Note<'a>>, AllocError> {
-    let mut notes = Gathered::new(alloc);
-    let mut words = Vec::new(alloc);
-    for line in lines {
-        add_note(&mut notes, &mut words, *line);
-    }
-    notes.whole()
-}
-
-/// Adds a line, if it stands in a book.
-fn add_note<'a>(notes: &mut Gathered<Note<'a>>, words: &mut Vec<&'a [u8]>, line: Line<'a>) {
-    if let Said::Note(tag) = line.said {
-        if words_of(words, line.text).is_err() {
-            notes.full = true;
+    /// This fact, of what the line says it of. A line about a row has no channel and no place.
+    pub(crate) fn key(&self, fact: Fact, of: Of) -> Key<'a> {
+        let fact = fact as usize;
+        match of {
+            Of::Subject => (fact, self.row, self.channel, self.place),
+            Of::Other => (fact, self.other, self.channel, self.place),
+            Of::Wait => (fact, 0, b"", self.wait),
+            Of::Own => (fact, self.tag, b"", b""),
         }
-        notes.add(note_of(tag, line.text, words.as_slice()));
+    }
+
+    /// What it says itself.
+    pub(crate) fn said(&self) -> Key<'a> {
+        self.key(self.verb.fact, self.verb.parts.of)
     }
 }

@@ -1,11 +1,11 @@
 //! An order of the lines of the books.
 
-use crate::causes::Cause;
+use crate::causes::Precedence;
 use gathered::{Gathered, NOWHERE, at, filled, put};
 use std::alloc::{AllocError, Global};
 
 /// That of no lines.
-const NO_CAUSE: Cause = Cause {
+const NO_PRECEDENCE: Precedence = Precedence {
     above: NOWHERE,
     below: NOWHERE,
 };
@@ -22,21 +22,17 @@ const NO_LINKS: Links = Links {
     first: NOWHERE,
 };
 
-/// Counts a cause of the line below, and makes it the first in which the other stands above.
-fn link(lines: &mut Vec<Links>, cause: Cause, i: usize) {
-    let above = at(lines.as_slice(), cause.above, NO_LINKS);
-    put(lines, cause.above, Links { first: i, ..above });
-    let below = at(lines.as_slice(), cause.below, NO_LINKS);
-    let left = below.left.saturating_add(1);
-    put(lines, cause.below, Links { left, ..below });
-}
-
-/// Links the causes, the last first.
-fn link_all(lines: &mut Vec<Links>, causes: &[Cause]) {
+/// Links the causes, the last first: counts each of the line below, and makes it the first in which the other stands above.
+fn link_all(lines: &mut Vec<Links>, causes: &[Precedence]) {
     let mut i = causes.len();
     for _ in 0..causes.len() {
         i = i.saturating_sub(1);
-        link(lines, at(causes, i, NO_CAUSE), i);
+        let cause = at(causes, i, NO_PRECEDENCE);
+        let above = at(lines.as_slice(), cause.above, NO_LINKS);
+        put(lines, cause.above, Links { first: i, ..above });
+        let below = at(lines.as_slice(), cause.below, NO_LINKS);
+        let left = below.left.saturating_add(1);
+        put(lines, cause.below, Links { left, ..below });
     }
 }
 
@@ -58,10 +54,10 @@ fn add_free(order: &mut Gathered<usize>, lines: &[Links]) {
 }
 
 /// Adds the lines that a line frees, which is taken.
-fn free(order: &mut Gathered<usize>, lines: &mut Vec<Links>, causes: &[Cause], line: usize) {
+fn free(order: &mut Gathered<usize>, lines: &mut Vec<Links>, causes: &[Precedence], line: usize) {
     let first = at(lines.as_slice(), line, NO_LINKS).first;
     for i in first..causes.len() {
-        let cause = at(causes, i, NO_CAUSE);
+        let cause = at(causes, i, NO_PRECEDENCE);
         if cause.above != line {
             break;
         }
@@ -71,8 +67,9 @@ fn free(order: &mut Gathered<usize>, lines: &mut Vec<Links>, causes: &[Cause], l
     }
 }
 
-/// Takes each line when it is the first of those that wait for their turn.
-fn take_all(order: &mut Gathered<usize>, lines: &mut Vec<Links>, causes: &[Cause]) {
+/// Adds the lines that are free, and takes each when it is the first of those that wait for their turn.
+fn take_all(order: &mut Gathered<usize>, lines: &mut Vec<Links>, causes: &[Precedence]) {
+    add_free(order, lines.as_slice());
     for taken in 0..lines.len() {
         let line = at(order.as_slice(), taken, NOWHERE);
         if line == NOWHERE {
@@ -82,26 +79,17 @@ fn take_all(order: &mut Gathered<usize>, lines: &mut Vec<Links>, causes: &[Cause
     }
 }
 
-fn gathered_order(
-    alloc: Global,
-    lines: &mut Vec<Links>,
-    causes: &[Cause],
-) -> Result<Vec<usize>, AllocError> {
-    link_all(lines, causes);
-    let mut order = Gathered::new(alloc);
-    add_free(&mut order, lines.as_slice());
-    take_all(&mut order, lines, causes);
-    order.whole()
-}
-
 /// The lines from the top down: a line that is free is taken when it is the first of those that wait for their turn, and what it
 /// frees comes behind them. Lines that are never free are missing. The causes are sorted by the lines above.
 pub(crate) fn order_of(
     alloc: Global,
     lines: usize,
-    causes: &mut Vec<Cause>,
+    causes: &mut Vec<Precedence>,
 ) -> Result<Vec<usize>, AllocError> {
     causes.sort_by_key(|cause| cause.above)?;
     let mut links = filled(alloc, NO_LINKS, lines)?;
-    gathered_order(alloc, &mut links, causes.as_slice())
+    link_all(&mut links, causes.as_slice());
+    let mut order = Gathered::new(alloc);
+    take_all(&mut order, &mut links, causes.as_slice());
+    order.whole()
 }

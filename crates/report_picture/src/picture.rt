@@ -38,7 +38,7 @@ pub struct Title<'a> {
 
 /// A way through the picture.
 #[derive(Clone, Copy)]
-pub enum Way {
+pub enum Route {
     /// Straight down.
     Down {
         x: u64,
@@ -88,7 +88,7 @@ pub enum Mark<'a> {
         title: Title<'a>,
     },
     Path {
-        way: Way,
+        way: Route,
         look: Look,
         title: Title<'a>,
     },

@@ -1,16 +1,18 @@
 //! The lines that are drawn, each in its row.
 
-ghost use Rattle.std.specs.Prelude.{◌≡◌, IfOk, IfSome, ◌&&◌, not, OnOk, [], ◌∷◌, ◌++◌, ◌<◌, filter, true};
+ghost use Rattle.std.specs.Prelude.{◌≡◌, IfOk, IfSome, ◌&&◌, not, OnOk, [], ◌∷◌, ◌++◌, ◌<◌, filter, length, true};
 ghost use Rattle.std.specs.Option.{option_copied};
 ghost use Rattle.report_reader.specs.Reading.{told, told_lines};
 ghost use Rattle.report_picture.specs.Order.{StandFrom};
-ghost use Rattle.report_picture.specs.Pictures.{EndsAbove, StandInColumns, StandInOrder, is_drawn, is_left_out, is_of, is_target, is_within, lines_in};
+ghost use Rattle.report_picture.specs.Pictures.{EndsAbove, StandInColumns, StandInOrder, is_drawn, is_left_out, is_target, is_within, lines_in};
 
+use crate::arranged::Books;
 use crate::columns::Wanted;
 use crate::picture::Drawn;
+use crate::targets::target_at;
 use co_base::Memory;
 use gathered::at;
-use picture_parts::{Names, column_of, is_among, is_bookkeeping, row_behind};
+use picture_parts::{column_of, is_among, is_bookkeeping, row_behind};
 use report_reader::{Line, Said};
 use std::alloc::{AllocError, Global};
 
@@ -21,17 +23,11 @@ fn is_left_out(wanted: Wanted, line: &[u8]) -> bool
     wanted.only_channels && is_bookkeeping(line)
 }
 
-fn is_of(tags: &[u32], line: Line) -> bool
-    ensures { result ≡ is_of tags.now (told line.entry) }
-{
-    column_of(line.said, tags).is_some()
-}
-
 /// Whether a line is drawn: it is not left out, and its coroutine has a column.
 pub(crate) fn is_drawn(wanted: Wanted, tags: &[u32], line: Line) -> bool
     ensures { result ≡ is_drawn wanted tags.now (told line.entry) }
 {
-    !is_left_out(wanted, line.text) && is_of(tags, line)
+    !is_left_out(wanted, line.text) && column_of(line.said, tags).is_some()
 }
 
 /// This row, or the next below a line, if that stands in the same column and not above it.
@@ -62,146 +58,86 @@ fn among(tags: &[u32], target: Option<u32>) -> Option<u32>
     }
 }
 
-/// The other coroutine that a line concerns, and the line of the script that it comes from.
-#[derive(Clone, Copy)]
-struct About<'a> {
-    target: Option<u32>,
-    source: &'a [u8],
+/// The row of the next of these lines: as told, the one that as many lines stand above; else this one, or the next below the last line.
+#[tactic(auto, using(crate::proofs::Placing::told_above))]
+fn row_for(drawn: &[Drawn], as_told: bool, column: usize, row: u32) -> Result<u32, Memory>
+    requires rows { as_told ≡ true → StandFrom 0 drawn.now }
+    ensures above { IfOk result (λ row. EndsAbove column row drawn.now) }
+    ensures rows { as_told ≡ true → IfOk result (λ row. row ≡ length drawn.now) }
+{
+    if !as_told {
+        return row_below(drawn, column, row);
+    }
+    match u32::try_from(drawn.len()) {
+        Ok(row) => Ok(row),
+        Err(_) => Err(Memory),
+    }
 }
 
-/// Adds a line, if it is drawn.
-#[tactic(auto, using(crate::proofs::Placing::columns_more, crate::proofs::Placing::order_more))]
+/// Adds the line with this number, if it is drawn.
+#[tactic(auto, using(crate::proofs::Placing::columns_more, crate::proofs::Placing::order_more, crate::proofs::Placing::rows_more))]
 fn push_drawn<'a>(
     drawn: &mut Vec<Drawn<'a>>,
-    wanted: Wanted,
-    tags: &[u32],
-    row: u32,
-    about: About<'a>,
+    books: Books<'_, 'a>,
+    rows: &[u32],
+    as_told: bool,
+    number: usize,
     line: Line<'a>,
 ) -> Result<(), Memory>
     requires order { StandInOrder drawn.old.items }
-    requires columns { StandInColumns tags.now drawn.old.items }
+    requires columns { StandInColumns books.tags.now drawn.old.items }
+    requires rows { as_told ≡ true → StandFrom 0 drawn.old.items }
     ensures once { OnOk result (lines_in drawn.new.items
-        ≡ lines_in drawn.old.items ++ filter (is_drawn wanted tags.now) (told line.entry ∷ [])) }
-    ensures columns { OnOk result (StandInColumns tags.now drawn.new.items) }
+        ≡ lines_in drawn.old.items ++ filter (is_drawn books.entry.wanted books.entry.tags.now) (told line.entry ∷ [])) }
+    ensures columns { OnOk result (StandInColumns books.entry.tags.now drawn.new.items) }
     ensures order { OnOk result (StandInOrder drawn.new.items) }
+    ensures rows { OnOk result (as_told ≡ true → StandFrom 0 drawn.new.items) }
 {
-    if is_left_out(wanted, line.text) {
+    if is_left_out(books.wanted, line.text) {
         return Ok(());
     }
-    let Some(column) = column_of(line.said, tags) else {
+    let Some(column) = column_of(line.said, books.tags) else {
         return Ok(());
     };
-    let row = row_below(drawn.as_slice(), column, row)?;
-    let target = among(tags, about.target);
+    let row = row_for(drawn.as_slice(), as_told, column, at(rows, number, 0))?;
+    let target = among(books.tags, target_at(books.told, number));
     drawn.push(Drawn {
         column,
         row,
         target,
         line,
-        source: about.source,
+        source: books.names.source_at(number),
     })?;
     Ok(())
 }
 
-/// The lines of the books of these coroutines, each in the row that is given for it; where that would not stand below the line before
-/// it in its book, in the next row.
+/// The lines of the books of the coroutines that have a column: as told, one below another; else each in the row that is given for it, or,
+/// where that would not stand below the line before it in its book, in the next row.
 pub(crate) fn drawn_in<'a>(
     alloc: Global,
-    wanted: Wanted,
-    tags: &[u32],
-    lines: &[Line<'a>],
+    books: Books<'_, 'a>,
     rows: &[u32],
-    targets: &[Option<u32>],
-    names: Names<'a>,
+    as_told: bool,
 ) -> Result<Vec<Drawn<'a>>, Memory>
-    ensures once { IfOk result (λ drawn. lines_in drawn.items ≡ filter (is_drawn wanted tags.now) (told_lines lines.now)) }
-    ensures columns { IfOk result (λ drawn. StandInColumns tags.now drawn.items) }
+    ensures once { IfOk result (λ drawn.
+        lines_in drawn.items ≡ filter (is_drawn books.entry.wanted books.entry.tags.now) (told_lines books.entry.lines.now)) }
+    ensures columns { IfOk result (λ drawn. StandInColumns books.entry.tags.now drawn.items) }
     ensures order { IfOk result (λ drawn. StandInOrder drawn.items) }
+    ensures rows { IfOk result (λ drawn. as_told ≡ true → StandFrom 0 drawn.items) }
 {
     let mut drawn: Vec<Drawn<'a>> = Vec::new(alloc);
-    let mut rest = lines;
-    let mut i = 0usize;
+    let mut rest = books.lines;
+    let mut number = 0usize;
     while let [line, more @ ..] = rest {
-        let about = About {
-            target: at(targets, i, None),
-            source: names.source_at(i),
-        };
-        push_drawn(&mut drawn, wanted, tags, at(rows, i, 0), about, *line)?;
-        i = i.saturating_add(1);
-        rest = more;
-    }
-    Ok(drawn)
-}
-
-/// Adds a line one row below the last, if it is drawn.
-#[tactic(auto, using(crate::proofs::Placing::columns_more, crate::proofs::Placing::rows_more))]
-fn push_next<'a>(
-    drawn: &mut Vec<Drawn<'a>>,
-    wanted: Wanted,
-    tags: &[u32],
-    about: About<'a>,
-    line: Line<'a>,
-) -> Result<(), Memory>
-    requires rows { StandFrom 0 drawn.old.items }
-    requires columns { StandInColumns tags.now drawn.old.items }
-    ensures once { OnOk result (lines_in drawn.new.items
-        ≡ lines_in drawn.old.items ++ filter (is_drawn wanted tags.now) (told line.entry ∷ [])) }
-    ensures columns { OnOk result (StandInColumns tags.now drawn.new.items) }
-    ensures rows { OnOk result (StandFrom 0 drawn.new.items) }
-{
-    if is_left_out(wanted, line.text) {
-        return Ok(());
-    }
-    let Some(column) = column_of(line.said, tags) else {
-        return Ok(());
-    };
-    let Ok(row) = u32::try_from(drawn.len()) else {
-        return Err(Memory);
-    };
-    let target = among(tags, about.target);
-    drawn.push(Drawn {
-        column,
-        row,
-        target,
-        line,
-        source: about.source,
-    })?;
-    Ok(())
-}
-
-/// The lines of the books of these coroutines, one below another as in the report.
-#[tactic(auto, using(crate::proofs::Placing::in_order_from))]
-pub(crate) fn drawn_as_told<'a>(
-    alloc: Global,
-    wanted: Wanted,
-    tags: &[u32],
-    lines: &[Line<'a>],
-    targets: &[Option<u32>],
-    names: Names<'a>,
-) -> Result<Vec<Drawn<'a>>, Memory>
-    ensures once { IfOk result (λ drawn. lines_in drawn.items ≡ filter (is_drawn wanted tags.now) (told_lines lines.now)) }
-    ensures columns { IfOk result (λ drawn. StandInColumns tags.now drawn.items) }
-    ensures order { IfOk result (λ drawn. StandInOrder drawn.items) }
-    ensures rows { IfOk result (λ drawn. StandFrom 0 drawn.items) }
-{
-    let mut drawn: Vec<Drawn<'a>> = Vec::new(alloc);
-    let mut rest = lines;
-    let mut i = 0usize;
-    while let [line, more @ ..] = rest {
-        let about = About {
-            target: at(targets, i, None),
-            source: names.source_at(i),
-        };
-        push_next(&mut drawn, wanted, tags, about, *line)?;
-        i = i.saturating_add(1);
+        push_drawn(&mut drawn, books, rows, as_told, number, *line)?;
+        number = number.saturating_add(1);
         rest = more;
     }
     Ok(drawn)
 }
 
 /// Whether a row is between those asked for.
-fn is_within(wanted: Wanted, drawn: &Drawn) -> bool
+pub(crate) fn is_within(wanted: Wanted, drawn: &Drawn) -> bool
     ensures { result ≡ is_within wanted drawn.now }
 {
     u64::from(wanted.from) <= u64::from(drawn.row) + 1
@@ -222,20 +158,19 @@ fn push_within<'a>(
     Ok(())
 }
 
-/// The lines in the rows that are asked for.
+/// Adds the lines in the rows that are asked for.
 #[tactic(auto, using(crate::proofs::Placing::part_more))]
-pub(crate) fn part_of<'a>(
-    alloc: Global,
+pub(crate) fn add_part<'a>(
+    part: &mut Vec<Drawn<'a>>,
     wanted: Wanted,
     drawn: &[Drawn<'a>],
-) -> Result<Vec<Drawn<'a>>, AllocError>
-    ensures { IfOk result (λ part. part.items ≡ filter (is_within wanted) drawn.now) }
+) -> Result<(), AllocError>
+    ensures { OnOk result (part.new.items ≡ part.old.items ++ filter (is_within wanted) drawn.now) }
 {
-    let mut part: Vec<Drawn<'a>> = Vec::new(alloc);
     let mut rest = drawn;
     while let [line, more @ ..] = rest {
-        push_within(&mut part, wanted, line)?;
+        push_within(part, wanted, line)?;
         rest = more;
     }
-    Ok(part)
+    Ok(())
 }

@@ -2,49 +2,31 @@
 
 use crate::arranged::Books;
 use crate::keyed::Numbers;
-use crate::notes::{Fact, Note, Verb};
-use crate::sources::{Place, Sources};
-use crate::told::Told;
+use crate::notes::{Fact, Note, Of};
+use crate::sources::{Sources, Standing};
+use crate::told::BookLines;
 use gathered::{Gathered, NOWHERE, at};
 use std::alloc::{AllocError, Global};
 
-/// The place of no line.
-const NO_PLACE: Place = Place::InReport(NOWHERE);
+/// That of no line.
+const NO_STANDING: Standing = Standing::InReport(NOWHERE);
 
-/// The place of a line: in the picture, if it is drawn, as the next there.
-fn place_of(is_drawn: bool, next: usize, number: usize) -> Place {
+/// Where a line stands: in the picture, if it is drawn, as the next there.
+fn standing_of(is_drawn: bool, next: usize, number: usize) -> Standing {
     if is_drawn {
-        Place::InPicture(next)
+        Standing::InPicture(next)
     } else {
-        Place::InReport(number)
+        Standing::InReport(number)
     }
-}
-
-/// Of each line of the books its place.
-fn places_of<'a>(alloc: Global, books: Books<'_, 'a>) -> Result<Vec<Place>, AllocError> {
-    let mut places = Gathered::new(alloc);
-    let mut next = 0usize;
-    for (number, note) in books.told.notes.iter().enumerate() {
-        let is_drawn = books.is_drawn(note);
-        places.add(place_of(is_drawn, next, number));
-        next = next.saturating_add(usize::from(is_drawn));
-    }
-    places.whole()
 }
 
 /// The line that resolved the wait of this line, if it placed or withdrew one and one did.
-fn resolved_by<'a>(told: &Told<'a>, number: usize) -> usize {
-    let note = told.note(number);
-    match note.verb {
-        Verb::Offer => told.sent_by(&note),
-        Verb::Await => told.received_by(&note),
-        Verb::Withdraw => number,
-        _ => NOWHERE,
-    }
+fn resolved_by<'a>(told: &BookLines<'a>, number: usize) -> usize {
+    told.find(told.note(number).verb.resolved, number)
 }
 
 /// Whether the line that resolved the wait of one line stands above that of another, if there is one.
-fn is_first<'a>(told: &Told<'a>, rows: &[u32], number: usize, known: usize) -> bool {
+fn is_first<'a>(told: &BookLines<'a>, rows: &[u32], number: usize, known: usize) -> bool {
     let by = resolved_by(told, number);
     if by == NOWHERE || known == NOWHERE {
         by != NOWHERE
@@ -53,44 +35,60 @@ fn is_first<'a>(told: &Told<'a>, rows: &[u32], number: usize, known: usize) -> b
     }
 }
 
-/// Tells of each wait the line that placed or withdrew it and was resolved: of several the one for which that stands topmost.
-fn resolve_all<'a>(resolved: &mut Numbers<&'a [u8]>, told: &Told<'a>, rows: &[u32]) {
-    for (number, note) in told.notes.iter().enumerate() {
-        if is_first(told, rows, number, resolved.at(note.wait)) {
+/// Tells of each line of the books where it stands, and of each wait the line that placed or withdrew it and was resolved: of several
+/// the one for which that stands topmost.
+fn add_standings<'a>(
+    standings: &mut Gathered<Standing>,
+    resolved: &mut Numbers<&'a [u8]>,
+    books: Books<'_, 'a>,
+    rows: &[u32],
+) {
+    let mut next = 0usize;
+    for (number, note) in books.told.notes.as_slice().iter().enumerate() {
+        let is_drawn = books.is_drawn(note);
+        standings.add(standing_of(is_drawn, next, number));
+        next = next.saturating_add(usize::from(is_drawn));
+        if is_first(books.told, rows, number, resolved.at(note.wait)) {
             resolved.put(note.wait, number);
         }
     }
-}
-
-fn resolved_in<'a>(
-    alloc: Global,
-    told: &Told<'a>,
-    rows: &[u32],
-) -> Result<Numbers<&'a [u8]>, AllocError> {
-    let mut resolved = Numbers::new(alloc);
-    resolve_all(&mut resolved, told, rows);
-    resolved.whole()
 }
 
 fn row_of(rows: &[u32], number: usize) -> u32 {
     at(rows, number, u32::MAX)
 }
 
-fn place_at(places: &[Place], number: usize) -> Place {
-    at(places, number, NO_PLACE)
+fn standing_at(standings: &[Standing], number: usize) -> Standing {
+    at(standings, number, NO_STANDING)
 }
 
-/// What a line of a book presupposes, by the places of the lines of the books, and the line that placed the wait that it settles.
-fn sources_of<'a>(told: &Told<'a>, note: &Note<'a>, places: &[Place], placing: usize) -> Sources {
+/// What a line of a book presupposes, by where the lines of the books stand, and the line that placed the wait that it settles.
+fn sources_of<'a>(
+    told: &BookLines<'a>,
+    note: &Note<'a>,
+    standings: &[Standing],
+    placing: usize,
+) -> Sources {
     Sources {
-        attach: place_at(places, told.of_row(Fact::Attaches, note.tag)),
-        bring: place_at(
-            places,
-            told.at_place(Fact::Brings, note.channel, note.place),
-        ),
+        attach: standing_at(standings, told.of_row(Fact::Attaches, note.tag)),
+        bring: standing_at(standings, told.said(Fact::Brings, Of::Subject, note)),
         placing,
-        resolve: place_at(places, resolved_by(told, placing)),
-        cancel: place_at(places, told.of_row(Fact::Cancels, note.row)),
+        resolve: standing_at(standings, resolved_by(told, placing)),
+        cancel: standing_at(standings, told.of_row(Fact::Cancels, note.row)),
+    }
+}
+
+/// Adds those of the lines that are drawn.
+fn add_sources<'a>(
+    sources: &mut Gathered<Sources>,
+    books: Books<'_, 'a>,
+    standings: &[Standing],
+    resolved: &Numbers<&'a [u8]>,
+) {
+    for note in books.told.notes.as_slice() {
+        if books.is_drawn(note) {
+            sources.add(sources_of(books.told, note, standings, resolved.at(note.wait)));
+        }
     }
 }
 
@@ -100,23 +98,11 @@ pub(crate) fn sources_in<'a>(
     books: Books<'_, 'a>,
     rows: &[u32],
 ) -> Result<Vec<Sources>, AllocError> {
-    let places = places_of(alloc, books)?;
-    let resolved = resolved_in(alloc, books.told, rows)?;
-    drawn_sources(alloc, books, places.as_slice(), &resolved)
-}
-
-/// Those of the lines that are drawn.
-fn drawn_sources<'a>(
-    alloc: Global,
-    books: Books<'_, 'a>,
-    places: &[Place],
-    resolved: &Numbers<&'a [u8]>,
-) -> Result<Vec<Sources>, AllocError> {
+    let mut standings = Gathered::new(alloc);
+    let mut resolved = Numbers::new(alloc);
     let mut sources = Gathered::new(alloc);
-    for note in books.told.notes.iter() {
-        if books.is_drawn(note) {
-            sources.add(sources_of(books.told, note, places, resolved.at(note.wait)));
-        }
-    }
+    add_standings(&mut standings, &mut resolved, books, rows);
+    add_sources(&mut sources, books, standings.as_slice(), &resolved);
+    sources.full = sources.full | standings.full | resolved.full;
     sources.whole()
 }

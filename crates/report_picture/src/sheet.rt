@@ -1,6 +1,6 @@
 //! What the marks are made of.
 
-use crate::arranged::Books;
+use crate::arranged::{Arranged, Books};
 use crate::layout::{HALF, row_y};
 use crate::picture::{Column, Title};
 use gathered::{NOWHERE, at};
@@ -11,9 +11,8 @@ use report_reader::Said;
 #[derive(Clone, Copy)]
 pub(crate) struct Sheet<'s, 'a> {
     pub(crate) books: Books<'s, 'a>,
+    pub(crate) arranged: &'s Arranged<'a>,
     pub(crate) columns: &'s [Column],
-    /// Of each line its row; of one that is not drawn that of the next line below.
-    pub(crate) rows: &'s [u32],
     /// The row that is drawn first, and the one behind the last that is drawn.
     pub(crate) first: u32,
     pub(crate) until: u32,
@@ -22,7 +21,7 @@ pub(crate) struct Sheet<'s, 'a> {
 }
 
 /// The column of no coroutine.
-const NO_COLUMN: Column = Column {
+pub(crate) const NO_COLUMN: Column = Column {
     tag: 0,
     left: 0,
     text: 0,
@@ -39,15 +38,10 @@ impl<'s, 'a> Sheet<'s, 'a> {
         at(self.columns, column, NO_COLUMN).left
     }
 
-    /// Where the texts of the lines of a column begin from the left.
-    pub(crate) fn texts_of(&self, column: usize) -> u64 {
-        at(self.columns, column, NO_COLUMN).text
-    }
-
     /// The column of a line, if it is drawn.
     pub(crate) fn column_at(&self, number: usize) -> usize {
         let note = self.books.told.note(number);
-        if number < self.rows.len() && self.books.is_drawn(&note) {
+        if number < self.books.told.notes.len() && self.books.is_drawn(&note) {
             self.column(note.tag)
         } else {
             NOWHERE
@@ -67,20 +61,15 @@ impl<'s, 'a> Sheet<'s, 'a> {
         }
     }
 
-    /// The row of a line; behind the last line that of the picture's end.
+    /// The row of a line, and of one that is not drawn that of the next line below; behind the last line that of the picture's end.
     pub(crate) fn row(&self, number: usize) -> u32 {
-        at(self.rows, number, self.until)
+        at(self.arranged.rows.as_slice(), number, self.until)
     }
 
     /// Whether the row of a line is drawn.
     pub(crate) fn is_seen(&self, number: usize) -> bool {
         let row = self.row(number);
         self.first <= row && row < self.until
-    }
-
-    /// Where the rows begin from the top.
-    pub(crate) fn edge(&self) -> u64 {
-        row_y(self.top, 0).saturating_sub(HALF)
     }
 
     /// Where the row behind the last has its middle.
@@ -92,7 +81,7 @@ impl<'s, 'a> Sheet<'s, 'a> {
     pub(crate) fn y(&self, number: usize) -> u64 {
         let row = self.row(number);
         if row < self.first {
-            self.edge()
+            row_y(self.top, 0).saturating_sub(HALF)
         } else {
             row_y(self.top, row.min(self.until).saturating_sub(self.first))
         }

@@ -2,7 +2,7 @@
 
 ghost use Rattle.std.specs.Prelude.{◌≡◌, option_map, slice_get};
 ghost use Rattle.report_reader.specs.Reading.{told, told_lines};
-ghost use Rattle.report_picture.specs.Order.{above_row, agree, agree_on_place, all_stand_below, attaches, brings, cancels, is_cancelling, is_resolving, line_above, outside, places, resolves, stands_below, text_if, text_or};
+ghost use Rattle.report_picture.specs.Order.{above_row, agree, agree_on_place, all_stand_below, attaches, brings, cancels, is_resolving, line_above, outside, places, resolves, stands_below, text_or};
 
 use crate::columns::Wanted;
 use crate::picture::Drawn;
@@ -12,7 +12,7 @@ use report_reader::Line;
 
 /// Where a line stands.
 #[derive(Clone, Copy)]
-pub enum Place {
+pub enum Standing {
     /// Its number among the lines of the picture.
     InPicture(usize),
     /// Its number among the lines of the report.
@@ -23,15 +23,15 @@ pub enum Place {
 #[derive(Clone, Copy)]
 pub struct Sources {
     /// The `attach` of its coroutine.
-    pub attach: Place,
+    pub attach: Standing,
     /// What brought the element that it gets.
-    pub bring: Place,
+    pub bring: Standing,
     /// What placed the wait that it settles, by its number among the lines of the report.
     pub placing: usize,
     /// What resolved that wait.
-    pub resolve: Place,
+    pub resolve: Standing,
     /// The `cancel` that it saw.
-    pub cancel: Place,
+    pub cancel: Standing,
 }
 
 // ---- what two lines share
@@ -87,16 +87,13 @@ fn resolves(placing: &[u8], above: &[u8], line: &[u8]) -> bool
             || (is_resolving(above) && (agree_on_place(above, placing) && places(placing, line))))
 }
 
-fn is_cancelling(line: &[u8]) -> bool
-    ensures { result ≡ is_cancelling line.now }
-{
-    tells(b"cancel", line) || (tells(b"attach", line) && word(8, line) == b"cancelled".as_slice())
-}
-
 fn cancels(above: &[u8], line: &[u8]) -> bool
     ensures { result ≡ cancels above.now line.now }
 {
-    !tells(b"saw", line) || (is_cancelling(above) && agree(2, above, 2, line))
+    !tells(b"saw", line)
+        || ((tells(b"cancel", above)
+            || (tells(b"attach", above) && word(8, above) == b"cancelled".as_slice()))
+            && agree(2, above, 2, line))
 }
 
 // ---- where it stands
@@ -107,42 +104,30 @@ fn line_at<'a>(lines: &[Line<'a>], number: usize) -> Option<Line<'a>>
     lines.get(number).copied()
 }
 
-fn drawn_at<'a>(drawn: &[Drawn<'a>], number: usize) -> Option<Drawn<'a>>
-    ensures { result ≡ slice_get drawn.now number }
+fn text_at<'a>(lines: &[Line<'a>], number: usize) -> &'a [u8]
+    ensures { result.now ≡ text_or (slice_get (told_lines lines.now) number) }
 {
-    drawn.get(number).copied()
-}
-
-fn above_row<'a>(row: u32, drawn: Option<Drawn<'a>>) -> &'a [u8]
-    ensures { result.now ≡ above_row row drawn.entry }
-{
-    match drawn {
-        Some(drawn) => text_if(drawn.row < row, drawn.line.text),
-        None => b"",
-    }
-}
-
-fn outside<'a>(wanted: Wanted, tags: &[u32], line: Option<Line<'a>>) -> &'a [u8]
-    ensures { result.now ≡ outside wanted tags.now (option_map told line.entry) }
-{
-    match line {
-        Some(line) => text_if(!is_drawn(wanted, tags, line), line.text),
-        None => b"",
-    }
-}
-
-fn text_if(seen: bool, text: &[u8]) -> &[u8]
-    ensures { result.now ≡ text_if seen text.now }
-{
-    if seen { text } else { b"" }
-}
-
-fn text_or<'a>(line: Option<Line<'a>>) -> &'a [u8]
-    ensures { result.now ≡ text_or (option_map told line.entry) }
-{
-    match line {
+    match line_at(lines, number) {
         Some(line) => line.text,
         None => b"",
+    }
+}
+
+fn above_row<'a>(row: u32, drawn: &[Drawn<'a>], number: usize) -> &'a [u8]
+    ensures { result.now ≡ above_row row (slice_get drawn.now number) }
+{
+    match drawn.get(number) {
+        Some(drawn) if drawn.row < row => drawn.line.text,
+        _ => b"",
+    }
+}
+
+fn outside<'a>(wanted: Wanted, tags: &[u32], lines: &[Line<'a>], number: usize) -> &'a [u8]
+    ensures { result.now ≡ outside wanted tags.now (slice_get (told_lines lines.now) number) }
+{
+    match line_at(lines, number) {
+        Some(line) if !is_drawn(wanted, tags, line) => line.text,
+        _ => b"",
     }
 }
 
@@ -153,13 +138,13 @@ fn line_above<'a>(
     lines: &[Line<'a>],
     drawn: &[Drawn<'a>],
     row: u32,
-    place: Place,
+    place: Standing,
 ) -> &'a [u8]
     ensures { result.now ≡ line_above wanted tags.now (told_lines lines.now) drawn.now row place }
 {
     match place {
-        Place::InPicture(number) => above_row(row, drawn_at(drawn, number)),
-        Place::InReport(number) => outside(wanted, tags, line_at(lines, number)),
+        Standing::InPicture(number) => above_row(row, drawn, number),
+        Standing::InReport(number) => outside(wanted, tags, lines, number),
     }
 }
 
@@ -176,7 +161,7 @@ fn stands_below<'a>(
     let text = line.line.text;
     let attach = line_above(wanted, tags, lines, drawn, line.row, sources.attach);
     let bring = line_above(wanted, tags, lines, drawn, line.row, sources.bring);
-    let placing = text_or(line_at(lines, sources.placing));
+    let placing = text_at(lines, sources.placing);
     let resolve = line_above(wanted, tags, lines, drawn, line.row, sources.resolve);
     let cancel = line_above(wanted, tags, lines, drawn, line.row, sources.cancel);
     attaches(attach, text)

@@ -1,0 +1,7 @@
+use Rattle.gathered.proofs.Adding.{adds}
+use Rattle.picture_parts.proofs.markup.add_rest.Goals as goal
+
+pub returns : goal.returns
+returns c =
+    adds (adds (adds (adds (adds c.add.ensures.added c.add_title.ensures) c.add_escaped.ensures) c.add-2.ensures.added)
+    c.add-3.ensures.added) c.add-4.ensures.added

@@ -1,9 +1,0 @@
-use Rattle.std.proofs.Common.{◌≡◌, ◌++◌, map, length}
-use Rattle.report_picture.specs.Elements.{mark_node, nodes_text}
-use Rattle.report_picture.proofs.document.push_marks.Given as goal
-
-abbrev pub invariant-loop-rest : goal.invariant-loop-rest
-invariant-loop-rest l = l.out.items ++ nodes_text (map mark_node l.rest) ≡ l.fn.out.items ++ nodes_text (map mark_node l.marks)
-
-abbrev pub decreases-loop-rest : goal.decreases-loop-rest
-decreases-loop-rest l = length l.rest
