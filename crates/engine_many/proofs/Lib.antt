@@ -1,3 +1,4 @@
+pub mod Changed
 pub mod NewTasks
 pub mod TablesOfScripts
 pub mod WholeFloors

@@ -3,6 +3,7 @@ use Rattle.std.specs.Prelude.{◌≡◌, ℕ, suc, ◌+◌, ◌<◌, ◌≤◌, 
 use Rattle.std.specs.List.{All}
 use Rattle.std.proofs.Common.{sym, ap, ◌∙◌, subst, arith, true≢false}
 use Rattle.std.proofs.lemmas.List.Elements.{All-head, All-tail, All-cons}
+use Rattle.std.proofs.lemmas.Bool.{or_right}
 use mathlib.Core.Logic.{dite}
 use native.Mathlib.Decide.{ℕ_discrete, dec_le}
 use Rattle.channel_model.specs.Floors.{Floor as ChannelFloor, Looked}
@@ -15,9 +16,10 @@ use Rattle.script_grammar.specs.Programs.{Program}
 use Rattle.script_grammar.specs.Tags.{coroutine_count}
 use Rattle.word_seats.specs.Seats.{may_act}
 use Rattle.word_seats.proofs.Given.{ungiven}
-use Rattle.run_laws.specs.Sights.{Sight, KnowsTags, CountUp}
+use Rattle.run_laws.specs.Sights.{Sight, Keeps, KnowsTags, CountUp}
 use Rattle.run_laws.specs.LastRounds.{tags_seen}
 use Rattle.run_laws.specs.Ends.{IsBroughtTo, NoOthers, IsSpare}
+use Rattle.run_laws.proofs.Hearing.{within_itself}
 use Rattle.engine_many.specs.Endings.{MayBothCall, AreWhole}
 
 -- who heard something before an end has heard it at the end
@@ -34,16 +36,12 @@ ended_heard a h c b here looked ended = record {
   theirs = ended.theirs;
 }
 
-or_second : (a b : Bool) → b ≡ true → (a || b) ≡ true
-or_second true b e = refl
-or_second false b e = e
-
 -- the floors that were kept aside have come there
 pub aside_there : (p : Program) (c c' b : ChannelFloor) (j j' i : Floor) → EndedOnChannels c c' b → EndedOnJobs j j' i → IsSpare p b i
     → MayBothCall c' j' (coroutine_count p)
 aside_there p c c' b j j' i calls jobs spare = (
-  calls.callers (coroutine_count p) ∙ or_second (c.callers (coroutine_count p)) (b.callers (coroutine_count p)) spare.caller,
-  jobs.callers (coroutine_count p) ∙ or_second (j.callers (coroutine_count p)) (i.callers (coroutine_count p)) spare.job_caller,
+  calls.callers (coroutine_count p) ∙ or_right (c.callers (coroutine_count p)) (b.callers (coroutine_count p)) spare.caller,
+  jobs.callers (coroutine_count p) ∙ or_right (j.callers (coroutine_count p)) (i.callers (coroutine_count p)) spare.job_caller,
 )
 
 module _ {X : Type 0} (at : X → Sight) where
@@ -80,3 +78,17 @@ gave_these n chief given tags has none k e = dite (dec_le k n) (has k)
 
 pub gives_out : (n : ℕ) (chief : Bool) (given : List ℕ) → ((k : ℕ) → n < k → may_act chief given k ≡ false) → chief ≡ true
 gives_out n chief given none = (ungiven chief given (suc n) (none (suc n) (let lt : n < suc n = omega arith in lt))).0
+
+-- what a coroutine has seen and done is at its own floors
+pub brought_itself : (p : Program) (s : Sight) → Keeps p s → IsBroughtTo p s.channels s.jobs s
+brought_itself p s k = record {
+  keeps = k;
+  shape = refl;
+  job_shape = refl;
+  caller = k.stands.of_channels;
+  job_caller = k.stands.of_jobs;
+  seen = within_itself s;
+  same = record { calls = refl; jobs = refl };
+  kept = λ r t e. e;
+  claims = λ r. refl;
+}

@@ -1,5 +1,6 @@
 -- What is left when the floors of all were ended into those of the root.
 use Rattle.std.specs.Prelude.{◌≡◌, ℕ, ◌<◌, ◌≤◌, Bool, true, false, List, Option, map}
+use Rattle.std.specs.List.{All}
 use Rattle.channel_model.specs.Floors.{Floor as ChannelFloor}
 use Rattle.job_model.specs.Floors.{Floor}
 use Rattle.job_model.specs.declared.acts.End.{End}
@@ -8,6 +9,7 @@ use Rattle.script_grammar.specs.Programs.{Program}
 use Rattle.script_grammar.specs.Tags.{coroutine_count}
 use Rattle.script_meaning.specs.Shapes.{floor_shape, job_shape}
 use Rattle.poll_states.specs.Frames.{Frame}
+use Rattle.run_laws.specs.Sights.{Sight}
 use Rattle.run_laws.specs.Ends.{IsBroughtTo, NoOthers, IsRunInOneOrderIf, AreJoint}
 use Rattle.engine_many.specs.declared.ending.Left.{Left}
 use Rattle.engine_many.specs.Parts.{sight_of}
@@ -15,6 +17,14 @@ use Rattle.engine_many.specs.Parts.{sight_of}
 -- what the task has seen and done was brought to these floors
 abbrev pub IsBroughtInto : {B C J : Type 0} → (C → ChannelFloor) → (J → Floor) → Program → Left C J B → Frame × C × J → Type 0
 IsBroughtInto calls jobs p left x = IsBroughtTo p (calls left.channels) (jobs left.jobs) (sight_of calls jobs x)
+
+-- what was brought to the first floors is brought to the second
+abbrev pub StaysBrought : Program → ChannelFloor → Floor → ChannelFloor → Floor → Type 0
+StaysBrought p c j c' j' = (s : Sight) → IsBroughtTo p c j s → IsBroughtTo p c' j' s
+
+-- where anything was brought to the first floors, what those have seen and done was brought to the second
+abbrev pub AreBrought : {X : Type 0} → Program → ChannelFloor → Floor → ChannelFloor → Floor → (X → Sight) → List X → Type 0
+AreBrought p c j c' j' at xs = (s : Sight) → IsBroughtTo p c j s → All (λ x. IsBroughtTo p c' j' (at x)) xs
 
 -- both floors may call for this tag
 abbrev pub MayBothCall : ChannelFloor → Floor → ℕ → Type 0

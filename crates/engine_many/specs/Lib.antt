@@ -1,5 +1,4 @@
 pub mod Parts
 pub mod Meetings
 pub mod Endings
-pub mod Rounds
 pub mod WordRuns

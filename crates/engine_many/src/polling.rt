@@ -39,7 +39,7 @@ pub(crate) fn poll_all<
     for task in tasks {
         let (task, did) = task.poll_noting(script, tickets, gate)?;
         moved |= did;
-        polled.push(task)?;
+        polled.push_reserved(task);
     }
     Ok((polled, moved))
 }

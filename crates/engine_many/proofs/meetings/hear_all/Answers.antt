@@ -1,49 +1,40 @@
-use Rattle.std.proofs.Common.{◌≡◌, ap, sym, subst, All, ◌∙◌, map-id, length}
-use Rattle.std.proofs.lemmas.Iterator.Adapters.{YieldsList-from_vec}
-use Rattle.std.proofs.lemmas.Iterator.Consumers.{YieldsList-end}
+use Rattle.std.proofs.Common.{ap, subst, ◌∙◌, ◌<◌, arith, length, get_or, take, add-one, take_all}
+use Rattle.std.specs.List.{All}
+use Rattle.std.proofs.lemmas.List.Elements.{All-weaker}
 use Rattle.engine_many.specs.Parts.{sight_of, tag_of}
 use Rattle.run_laws.specs.LastRounds.{KnowsAllOf, HasRested}
-use Rattle.run_laws.proofs.Hearing.{saw_then, known_same, rested_same}
-use Rattle.run_laws.proofs.Lists.{tags_push}
-use Rattle.run_laws.proofs.Meeting.{heard_more, known_push, rested_push}
+use Rattle.run_laws.proofs.Hearing.{saw_then, known_same, rested_same, known_more, known_told, within_same}
+use Rattle.engine_many.proofs.Changed.{map_changed, all_changed, all_up_to}
 use Rattle.engine_many.proofs.meetings.hear_all.Goals as goal
 
 pub loop-other-preserved : goal.loop-other-preserved
 loop-other-preserved g c =
+    let at = sight_of g.C.ChannelFloor.view g.J.JobFloor.view in
     let i = c.loop-other.invariant in
+    let xs = c.loop-other.others in
+    let n = c.loop-other.other-index in
+    let lt : n < length xs = omega arith in
+    let d = c.other-item.result in
+    let x = get_or xs n d in
+    let y = c.hear.new.other in
+    let root = c.hear.new.self in
+    let more = c.hear.ensures.more in
     let same = c.hear.ensures.other in
     record {
-      root = saw_then _ _ _ i.root c.hear.ensures.more;
-      tags = rw c.in_ok-push.ensures.items (tags_push tag_of c.loop-other.yielded c.loop-other.heard.items c.in-Some.other c.hear.new.other
-          i.tags (ap (λ f. f.tag) same.frame));
-      heard = rw c.in_ok-push.ensures.items (heard_more (sight_of g.C.ChannelFloor.view g.J.JobFloor.view) _ _ c.loop-other.heard.items
-          c.in-Some.other c.hear.new.other c.hear.ensures.more i.heard c.hear.ensures.heard same);
-      known = λ first all. rw c.in_ok-push.ensures.items (known_push (sight_of g.C.ChannelFloor.view g.J.JobFloor.view) first
-          c.loop-other.yielded c.loop-other.heard.items c.in-Some.other c.hear.new.other (i.known first) (known_same first _ _ same) all);
-      rested = λ p first all. rw c.in_ok-push.ensures.items
-          (rested_push (sight_of g.C.ChannelFloor.view g.J.JobFloor.view) p first c.loop-other.yielded c.loop-other.heard.items
-          c.in-Some.other c.hear.new.other (i.rested p first) (rested_same p first _ _ same) all);
+      root = saw_then _ _ _ i.root more;
+      tags = map_changed tag_of xs n d y (ap (λ f. f.tag) same.frame) ∙ i.tags;
+      heard = rw add-one (all_up_to (λ z. KnowsAllOf (at root) (at z)) xs n y lt
+          (All-weaker (λ z. KnowsAllOf (at c.loop-other.root) (at z)) (λ z. KnowsAllOf (at root) (at z))
+          (λ z k. known_more _ _ (at z) more.within k) (take n xs) i.heard)
+          (known_told (at root) (at y) (within_same (at root) (at x) (at y) same c.hear.ensures.heard)));
+      known = λ first all. all_changed (λ z. KnowsAllOf first (at z)) xs n d y lt (known_same first (at x) (at y) same)
+          (i.known first all);
+      rested = λ p first all. all_changed (λ z. HasRested p first (at z)) xs n d y lt
+          (rested_same p first (at x) (at y) same) (i.rested p first all);
     }
 
-pub returns-in_err-push-clause-root : goal.returns-in_err-push-clause-root
-returns-in_err-push-clause-root g c = saw_then _ _ _ c.loop-other.invariant.root c.hear.ensures.more
-
-pub returns-clause-known : goal.returns-clause-known
-returns-clause-known g c =
-    let began = c.into_iter-other-iterator.ensures.into_iter_gives in
-    let end = YieldsList-end (YieldsList-from_vec c.args.others.items began.0 (c.into_iter-other-iterator.result.rest.ok.0
-    ∙ ap length began.0)) c.loop-other.yielded c.loop-other.other-iterator c.loop-other.yielded_by c.next.result c.next.new.self
-    c.in-None.is c.next.ensures.steps in
-    let e : c.loop-other.yielded ≡ c.args.others.items = sym (map-id c.loop-other.yielded) ∙ end.0 in
-    λ first all. c.loop-other.invariant.known first (subst
-    (All (λ x. KnowsAllOf first (sight_of g.C.ChannelFloor.view g.J.JobFloor.view x))) (sym e) all)
-
-pub returns-clause-rested : goal.returns-clause-rested
-returns-clause-rested g c =
-    let began = c.into_iter-other-iterator.ensures.into_iter_gives in
-    let end = YieldsList-end (YieldsList-from_vec c.args.others.items began.0 (c.into_iter-other-iterator.result.rest.ok.0
-    ∙ ap length began.0)) c.loop-other.yielded c.loop-other.other-iterator c.loop-other.yielded_by c.next.result c.next.new.self
-    c.in-None.is c.next.ensures.steps in
-    let e : c.loop-other.yielded ≡ c.args.others.items = sym (map-id c.loop-other.yielded) ∙ end.0 in
-    λ p first all. c.loop-other.invariant.rested p first (subst
-    (All (λ x. HasRested p first (sight_of g.C.ChannelFloor.view g.J.JobFloor.view x))) (sym e) all)
+pub returns-clause-heard : goal.returns-clause-heard
+returns-clause-heard g c =
+    let at = sight_of g.C.ChannelFloor.view g.J.JobFloor.view in
+    subst (All (λ z. KnowsAllOf (at c.loop-other.root) (at z))) (take_all c.loop-other.other-index c.loop-other.others (omega arith))
+    c.loop-other.invariant.heard

@@ -1,6 +1,6 @@
-use Rattle.std.proofs.Common.{◌≡◌, sym, subst, All, ◌∙◌, map-id, length, ap}
+use Rattle.std.proofs.Common.{◌≡◌, sym, subst, All, ◌∙◌, map-id, length, ap, arith, ◌∷◌, [], length-append}
 use Rattle.std.proofs.lemmas.Iterator.Adapters.{YieldsList-from_vec}
-use Rattle.std.proofs.lemmas.Iterator.Consumers.{YieldsList-end}
+use Rattle.std.proofs.lemmas.Iterator.Consumers.{YieldsList-end, YieldsList-turn}
 use Rattle.engine_many.specs.Parts.{sight_of, tag_of}
 use Rattle.run_laws.specs.Sights.{IsWithin}
 use Rattle.run_laws.specs.LastRounds.{KnowsAllOf}
@@ -8,17 +8,28 @@ use Rattle.run_laws.proofs.Lists.{tags_push}
 use Rattle.run_laws.proofs.Meeting.{poll_rested, poll_known}
 use Rattle.engine_many.proofs.polling.poll_all.Goals as goal
 
+pub push_reserved-requires : goal.push_reserved-requires
+push_reserved-requires g c =
+    let began = c.into_iter-task-iterator.ensures.into_iter_gives in
+    let turn = YieldsList-turn (YieldsList-from_vec c.args.tasks.items began.0 (c.into_iter-task-iterator.result.rest.ok.0
+    ∙ ap length began.0)) c.loop-task.yielded c.loop-task.task-iterator c.loop-task.yielded_by c.next.result c.next.new.self
+    c.in-Some.task c.in-Some.is c.next.ensures.steps in
+    omega (arith, turn.0, c.loop-task.invariant.count, c.loop-task.invariant.room)
+
 pub loop-task-preserved : goal.loop-task-preserved
 loop-task-preserved g c =
     let i = c.loop-task.invariant in
     record {
-      tags = rw c.in_ok-push.ensures.items (tags_push tag_of c.loop-task.yielded c.loop-task.polled.items c.in-Some.task c.in_ok-task.task
+      count = omega (arith, c.push_reserved.ensures.len, i.count, length-append c.loop-task.yielded (c.in-Some.task ∷ []));
+      room = omega (arith, c.push_reserved.ensures.capacity, i.room);
+      tags = rw c.push_reserved.ensures.items (tags_push tag_of c.loop-task.yielded c.loop-task.polled.items c.in-Some.task
+          c.in_ok-task.task
           i.tags c.in_ok-task.ensures.tag);
-      rested = λ e first all. rw c.in_ok-push.ensures.items
+      rested = λ e first all. rw c.push_reserved.ensures.items
           (poll_rested (sight_of g.C.ChannelFloor.view g.J.JobFloor.view) g.N.ScriptName.program c.loop-task.yielded
           c.loop-task.polled.items c.in-Some.task c.in_ok-task.task c.loop-task.moved c.in_ok-task.did i.rested c.in_ok-task.ensures.did
           c.in_ok-task.ensures.keeps e first all);
-      known = λ e first all. rw c.in_ok-push.ensures.items (poll_known (sight_of g.C.ChannelFloor.view g.J.JobFloor.view)
+      known = λ e first all. rw c.push_reserved.ensures.items (poll_known (sight_of g.C.ChannelFloor.view g.J.JobFloor.view)
           g.N.ScriptName.program c.loop-task.yielded c.loop-task.polled.items c.in-Some.task c.in_ok-task.task c.loop-task.moved
           c.in_ok-task.did i.known c.in_ok-task.ensures.did e first all);
     }
