@@ -1,8 +1,9 @@
 -- Which acts may come now, by the lists.
-use Rattle.std.specs.Prelude.{◌≡◌, ℕ, zero, suc, ◌+◌, ◌<◌, ◌≤◌, ◌==◌, nat_le, nat_lt, Bool, true, false, not, ◌&&◌, ◌||◌, List, [], ◌∷◌, length, Option, Some, None, is_some, slice_get, refl, IfSome, if◌then◌else◌}
+use Rattle.std.specs.Prelude.{◌≡◌, ℕ, zero, suc, ◌+◌, ◌<◌, ◌≤◌, ◌==◌, nat_le, nat_lt, Bool, true, false, not, ◌&&◌, List, [], ◌∷◌, length, Option, Some, None, is_some, slice_get, refl, IfSome, if◌then◌else◌}
 use Rattle.std.proofs.Common.{get_or, sym, ap, ◌∙◌, subst, arith, ne_eqb}
 use Rattle.std.proofs.lemmas.Bool.Decides.{nat_tests}
 use Rattle.std.proofs.lemmas.Option.{slice_get-get_or, get_or_from_slice_get}
+use Rattle.std.proofs.lemmas.Bool.{or_parts}
 use Rattle.channel_model.specs.declared.acts.Act.{Act}
 use Rattle.channel_model.specs.declared.acts.Entry.{Entry}
 use Rattle.channel_model.specs.declared.acts.Kind.{Kind}
@@ -53,10 +54,6 @@ are_of shape xs s at = record { count = at.count; places = at.places }
 
 -- ---- an offer at a place
 
-parts_false : (a b : Bool) → (a || b) ≡ false → (a ≡ false) × (b ≡ false)
-parts_false true b e = cc
-parts_false false b e = (refl, e)
-
 -- none stands there
 not_there : (p n : ℕ) (o : Standing) → ((o.place == p) && nat_le 0 n) ≡ false → (o.place == p) ≡ false
 not_there p n o e = drop_true (o.place == p) (nat_le 0 n) (let k : nat_le 0 n ≡ true = grind (arith, nat_tests) in k) e
@@ -69,14 +66,14 @@ not_there p n o e = drop_true (o.place == p) (nat_le 0 n) (let k : nat_le 0 n �
 pub none_admissible : (kind : Kind) (p n : ℕ) (q : List Standing) → stands_behind 0 p n q ≡ false → is_admissible kind p n q ≡ false
 none_admissible kind p n [] e = refl
 none_admissible kind p n (o ∷ os) e =
-    let k = parts_false ((o.place == p) && nat_le 0 n) _ e in
+    let k = or_parts ((o.place == p) && nat_le 0 n) _ e in
     ap (λ b. if b then is_some o.holder && not (is_full kind n) else is_admissible kind p (n + 1) os) (not_there p n o k.0)
     ∙ none_admissible kind p (n + 1) os k.1
 
 pub none_at : (p v n : ℕ) (q : List Standing) → stands_behind 0 p n q ≡ false → is_offer_at p v q ≡ false
 none_at p v n [] e = refl
 none_at p v n (o ∷ os) e =
-    let k = parts_false ((o.place == p) && nat_le 0 n) _ e in
+    let k = or_parts ((o.place == p) && nat_le 0 n) _ e in
     ap (λ b. if b then o.value == v else is_offer_at p v os) (not_there p n o k.0) ∙ none_at p v (n + 1) os k.1
 
 -- one stands there

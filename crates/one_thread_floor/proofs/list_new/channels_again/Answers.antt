@@ -5,5 +5,5 @@ use Rattle.one_thread_floor.proofs.list_new.channels_again.Goals as goal
 
 pub loop-i-preserved : goal.loop-i-preserved
 loop-i-preserved c = made_more c.args.kinds.now c.loop-i.i c.loop-i.channels.items c.push.new.self.items c.in_ok-channel.channel
-    (grind (arith, common_steps)) c.loop-i.invariant (grind (arith, common_steps)) c.in_ok-channel.ensures.channel
+    (omega arith) c.loop-i.invariant c.in_ok-push.ensures.items c.in_ok-channel.ensures.channel
     (grind (arith, common_steps))

@@ -1,6 +1,6 @@
-use Rattle.std.proofs.Common.{◌∙◌, subst}
+use Rattle.std.proofs.Common.{◌∙◌, subst, arith}
 use Rattle.channel_model.specs.Histories.{replay}
-use Rattle.channel_model.proofs.Alone.{recorded_legal}
+use Rattle.channel_model.proofs.Alone.{recorded_legal, made_alone}
 use Rattle.one_thread_floor.specs.Entries.{channel_entries}
 use Rattle.one_thread_floor.proofs.ListEntries.{recorded_at}
 use Rattle.one_thread_floor.proofs.ListMay.{may_at, are_of, told_needs}
@@ -66,3 +66,7 @@ invariant_of-self-2 c =
           c.args.self.now.legal at c.in-Some.ensures.at c.in-Some.ensures.held c.buffer_offer.ensures c.resolve_party.ensures.state));
       kept = c.resolve_party.ensures.kept;
     }
+
+pub returns-clause-made : goal.returns-clause-made
+returns-clause-made c = made_alone _ c.args.who _ (channel_entries c.args.self.now.entries) (channel_entries c.push.new.self) _ _
+    c.push.ensures (omega arith)

@@ -1,6 +1,6 @@
-use Rattle.std.proofs.Common.{sym, ◌∙◌}
+use Rattle.std.proofs.Common.{sym, ◌∙◌, arith}
 use Rattle.channel_model.specs.Histories.{replay}
-use Rattle.channel_model.proofs.Alone.{recorded_legal}
+use Rattle.channel_model.proofs.Alone.{recorded_legal, made_alone}
 use Rattle.one_thread_floor.specs.Entries.{channel_entries}
 use Rattle.one_thread_floor.specs.ListSteps.{state_in}
 use Rattle.one_thread_floor.proofs.ListEntries.{recorded_at}
@@ -57,3 +57,7 @@ invariant_of-self-2 c =
           c.args.self.now.legal at p.first p.change c.resolve_holder.ensures.state);
       kept = c.resolve_holder.ensures.kept;
     }
+
+pub returns-clause-made : goal.returns-clause-made
+returns-clause-made c = made_alone _ c.args.who _ (channel_entries c.args.self.now.entries) (channel_entries c.push.new.self) _ _
+    c.push.ensures (omega arith)

@@ -2,7 +2,7 @@ use Rattle.std.specs.Prelude.{◌≡◌, ◌<◌, length, true, false}
 use Rattle.std.proofs.Common.{arith, sym, ap, ◌∙◌}
 use Rattle.channel_model.specs.Channels.{Channel}
 use Rattle.channel_model.specs.Histories.{replay}
-use Rattle.channel_model.proofs.Alone.{recorded_legal}
+use Rattle.channel_model.proofs.Alone.{recorded_legal, made_alone}
 use Rattle.one_thread_floor.specs.Entries.{channel_entries}
 use Rattle.one_thread_floor.proofs.ListEntries.{recorded_at}
 use Rattle.one_thread_floor.proofs.ListMay.{needs_of, less_told, one_more}
@@ -41,3 +41,7 @@ invariant_of-self c =
           (spurn_at _ xs ys es c.args.who c.args.c c.args.place 0 c.in-Some.index c.args.value o l at behind change);
       kept = spurn_kept _ xs ys es c.args.c c.args.place 0 c.in-Some.index o l at behind change c.args.self.now.kept;
     }
+
+pub returns-clause-made : goal.returns-clause-made
+returns-clause-made c = made_alone _ c.args.who _ (channel_entries c.args.self.now.entries) (channel_entries c.push.new.self) _ _
+    c.push.ensures (omega arith)

@@ -1,6 +1,6 @@
-use Rattle.std.proofs.Common.{◌∙◌}
+use Rattle.std.proofs.Common.{◌∙◌, arith}
 use Rattle.channel_model.specs.Histories.{replay}
-use Rattle.channel_model.proofs.Alone.{recorded_legal}
+use Rattle.channel_model.proofs.Alone.{recorded_legal, made_alone}
 use Rattle.one_thread_floor.specs.Entries.{channel_entries}
 use Rattle.one_thread_floor.proofs.ListEntries.{recorded_at}
 use Rattle.one_thread_floor.proofs.ListMay.{may_at, are_of, told_needs}
@@ -46,3 +46,7 @@ invariant_of-self-2 c =
           c.in-Some-closed_with.ensures c.in-Some.ensures.first c.resolve_first.ensures.state);
       kept = c.resolve_first.ensures.kept;
     }
+
+pub returns-clause-made : goal.returns-clause-made
+returns-clause-made c = made_alone _ c.args.who _ (channel_entries c.args.self.now.entries) (channel_entries c.push.new.self) _ _
+    c.push.ensures (omega arith)
