@@ -47,7 +47,7 @@ use std::fmt::Debug;
 use std::random::RandomSource;
 use std::sync::Wait;
 use std::thread::Threads;
-use three_passes::{free_permits, given_up, number_behind_a_mutex};
+use three_passes::{Books, free_permits, given_up, number_behind_a_mutex};
 
 /// Whoever was woken last.
 #[derive(Drop)]
@@ -206,46 +206,55 @@ fn three_texts(alloc: Global) -> Result<Texts, Memory> {
 }
 
 fn tell_of_rings<R: Print + Threads + Wait + Sync + RandomSource + AllocGlobal>(rt: &R) {
-    tell(rt, "three put", &three_put(rt.alloc()));
-    tell(rt, "named by a send", &named_by_a_send(rt.alloc()));
+    tell(rt, "three put", three_put(rt.alloc()));
+    tell(rt, "named by a send", named_by_a_send(rt.alloc()));
     if let Ok(bells) = Bells::new(rt.alloc()) {
-        tell(rt, "by two threads", &by_two_threads(rt, &bells));
-        tell(rt, "of two rings", &of_two_rings(rt, &bells));
-        tell(
-            rt,
-            "by a sink and a stream",
-            &by_sink_and_stream(rt, &bells),
-        );
+        tell(rt, "by two threads", by_two_threads(rt, &bells));
+        tell(rt, "of two rings", of_two_rings(rt, &bells));
+        tell(rt, "by a sink and a stream", by_sink_and_stream(rt, &bells));
     }
 }
 
 /// Says what an example answers.
-fn tell<R: Print, T: Debug>(rt: &R, example: &str, answer: &T) {
+fn tell<R: Print, T: Debug + Drop>(rt: &R, example: &str, answer: T) {
     let _ = println!(rt; "{example}: {answer:?}");
 }
 
 fn tell_of_channels<R: Print>(rt: &R, alloc: Global) {
-    tell(rt, "one element", &one_element(alloc));
-    tell(rt, "met by a cancellation", &met_by_a_cancellation(alloc));
+    tell(rt, "one element", one_element(alloc));
+    tell(rt, "met by a cancellation", met_by_a_cancellation(alloc));
 }
 
 fn tell_of_permits<R: Print>(rt: &R, alloc: Global) {
-    tell(rt, "a number behind a mutex", &number_behind_a_mutex(alloc));
-    tell(rt, "free permits", &free_permits(alloc));
-    tell(rt, "a wait for a permit that is given up", &given_up(alloc));
+    let mut books = Books {
+        a: Notes::new(alloc),
+        b: Notes::new(alloc),
+        c: Notes::new(alloc),
+    };
+    tell(
+        rt,
+        "a number behind a mutex",
+        number_behind_a_mutex(alloc, &mut books),
+    );
+    tell(rt, "free permits", free_permits(alloc, &mut books));
+    tell(
+        rt,
+        "a wait for a permit that is given up",
+        given_up(alloc, &mut books),
+    );
 }
 
 fn tell_of_jobs<R: Print>(rt: &R, alloc: Global) {
-    tell(rt, "two Jobs", &two_jobs(alloc));
-    tell(rt, "launched", &launched(alloc));
-    tell(rt, "entered", &entered(alloc));
+    tell(rt, "two Jobs", two_jobs(alloc));
+    tell(rt, "launched", launched(alloc));
+    tell(rt, "entered", entered(alloc));
 }
 
 fn tell_of_bridges<R: Print + Wait + RandomSource + AllocGlobal>(rt: &R) {
-    tell(rt, "through a channel", &through_a_channel(rt));
-    tell(rt, "two doubled", &two_doubled(rt));
-    tell(rt, "at a rendezvous", &at_a_rendezvous(rt));
-    tell(rt, "a result awaited", &result_awaited(rt));
+    tell(rt, "through a channel", through_a_channel(rt));
+    tell(rt, "two doubled", two_doubled(rt));
+    tell(rt, "at a rendezvous", at_a_rendezvous(rt));
+    tell(rt, "a result awaited", result_awaited(rt));
 }
 
 fn main(rt: HostRuntime) {
@@ -254,7 +263,7 @@ fn main(rt: HostRuntime) {
     tell_of_permits(&rt, alloc);
     tell_of_jobs(&rt, alloc);
     tell_of_bridges(&rt);
-    tell(&rt, "two sends", &two_sends(alloc));
-    tell(&rt, "three texts", &three_texts(alloc));
+    tell(&rt, "two sends", two_sends(alloc));
+    tell(&rt, "three texts", three_texts(alloc));
     tell_of_rings(&rt);
 }

@@ -55,13 +55,13 @@ fn hand_and_send<R: Wait>(
     rt: &R,
     ring: &Ring<u32>,
     bells: &Bells,
-    mut pass: RingPass<u32>,
+    pass: &mut RingPass<u32>,
 ) -> (bool, Option<u64>)
-    requires pass { MayWait ring.now 1 pass }
+    requires pass { MayWait ring.now 1 pass.old }
 {
-    let handed = hand_over(rt, ring, bells, &mut pass, 1, 7);
-    let sent = send_or_back(rt, ring, bells, &mut pass, 1, 8);
-    bells.wake_all(ring.close_and_call(&mut pass));
+    let handed = hand_over(rt, ring, bells, pass, 1, 7);
+    let sent = send_or_back(rt, ring, bells, pass, 1, 8);
+    bells.wake_all(ring.close_and_call(pass));
     (matches!(handed, HandedOver::Taken(_)), sent.ok())
 }
 
@@ -70,13 +70,13 @@ fn receive_three<R: Wait>(
     rt: &R,
     ring: &Ring<u32>,
     bells: &Bells,
-    mut pass: RingPass<u32>,
+    pass: &mut RingPass<u32>,
 ) -> [Option<(u64, u32)>; 3]
-    requires pass { MayWait ring.now 0 pass }
+    requires pass { MayWait ring.now 0 pass.old }
 {
-    let first = receive(rt, ring, bells, &mut pass, 0);
-    let second = receive(rt, ring, bells, &mut pass, 0);
-    let third = receive(rt, ring, bells, &mut pass, 0);
+    let first = receive(rt, ring, bells, pass, 0);
+    let second = receive(rt, ring, bells, pass, 0);
+    let third = receive(rt, ring, bells, pass, 0);
     [first, second, third]
 }
 
@@ -85,16 +85,16 @@ pub(crate) fn by_two_threads<R: Threads + Wait + Sync + AllocGlobal>(
     rt: &R,
     bells: &Bells,
 ) -> Result<((bool, Option<u64>), [Option<(u64, u32)>; 3]), RingFault> {
-    let (ring, main, sender) = new_pair(rt.alloc(), 1)?;
+    let (ring, mut main, mut sender) = new_pair(rt.alloc(), 1)?;
     let ring = &ring;
     Ok(join(
         rt,
         || -> (bool, Option<u64>)
             requires sender { MayWait ring.now 1 sender }
-        { hand_and_send(rt, ring, bells, sender) },
+        { hand_and_send(rt, ring, bells, &mut sender) },
         || -> [Option<(u64, u32)>; 3]
             requires main { MayWait ring.now 0 main }
-        { receive_three(rt, ring, bells, main) },
+        { receive_three(rt, ring, bells, &mut main) },
     ))
 }
 
