@@ -85,20 +85,20 @@ fn result_of(end: Option<End>) -> Option<Value> {
 }
 
 /// The result of the root, how many books there are, and how many elements were received.
-type Told = (Option<Value>, usize, u32);
+type Outcome = (Option<Value>, usize, u32);
 
-fn told_of(done: &Done<Notes>) -> Told {
+fn told_of(done: &Done<Notes>) -> Outcome {
     let books = done.books.as_slice();
     (result_of(done.end), books.len(), received(books))
 }
 
 /// What a run by one worker comes to, if it is something else.
-fn other_by_one(alloc: Global, script: &Script, told: Told) -> Result<Option<Told>, Memory> {
+fn other_by_one(alloc: Global, script: &Script, told: Outcome) -> Result<Option<Outcome>, Memory> {
     let run = run_one(alloc, script, &OpenGate)?;
     Ok(other_than(told, &run.done))
 }
 
-fn other_than(told: Told, done: &Done<Notes>) -> Option<Told> {
+fn other_than(told: Outcome, done: &Done<Notes>) -> Option<Outcome> {
     let found = told_of(done);
     if found == told { None } else { Some(found) }
 }
@@ -109,8 +109,8 @@ fn other_by_lock<R: Threads + Wait + Sync>(
     alloc: Global,
     script: &Script,
     workers: u8,
-    told: Told,
-) -> Result<Option<Told>, Memory>
+    told: Outcome,
+) -> Result<Option<Outcome>, Memory>
     requires { (2 ≤ workers) × (workers ≤ 16) }
 {
     let run = run_locked(rt, alloc, script, workers, &OpenGate)?;
@@ -123,8 +123,8 @@ fn other_over_words<R: Threads + Wait + Sync>(
     alloc: Global,
     script: &Script,
     workers: u8,
-    told: Told,
-) -> Result<Option<Told>, Memory>
+    told: Outcome,
+) -> Result<Option<Outcome>, Memory>
     requires { (2 ≤ workers) × (workers ≤ 16) }
 {
     let run = run_many(rt, alloc, script, workers, &OpenGate)?;
@@ -136,8 +136,8 @@ fn other_by_any<R: Threads + Wait + Sync>(
     rt: &R,
     alloc: Global,
     script: &Script,
-    told: Told,
-) -> Result<Option<Told>, Memory> {
+    told: Outcome,
+) -> Result<Option<Outcome>, Memory> {
     let other = other_by_one(alloc, script, told)?;
     if other.is_some() {
         return Ok(other);
@@ -159,8 +159,8 @@ fn found_of<R: Threads + Wait + Sync>(
     rt: &R,
     alloc: Global,
     script: Script,
-    told: Told,
-) -> Result<([u16; 2], Option<Told>), Memory> {
+    told: Outcome,
+) -> Result<([u16; 2], Option<Outcome>), Memory> {
     let counts = [script.coroutines(), script.scopes()];
     Ok((counts, other_by_any(rt, alloc, &script, told)?))
 }

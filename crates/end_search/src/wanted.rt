@@ -57,7 +57,7 @@ impl Tell {
 
 /// What is told of an end, without the numbers of places, so that it is the same by whatever order the end was reached.
 #[derive(Drop)]
-pub(crate) struct Told {
+pub(crate) struct Account {
     root: Option<End>,
     /// The lines of Jobs, of elements, of coroutines that wait and of refused sends, sorted.
     lines: Vec<Vec<u8>>,
@@ -71,12 +71,12 @@ pub(crate) fn told_of(
     source: &[u8],
     tell: Tell,
     done: &Done<Notes>,
-) -> Result<Told, Memory> {
+) -> Result<Account, Memory> {
     let mut lines = Vec::new(alloc);
     push_told(alloc, &mut lines, script, source, done)?;
     lines.sort()?;
     let apart = lines_told(alloc, lines.as_slice(), tell)?;
-    Ok(Told {
+    Ok(Account {
         root: done.end,
         lines,
         apart,
@@ -192,9 +192,9 @@ fn has_end(back: &[u8], text: &[u8]) -> bool
     }
 }
 
-impl Told {
+impl Account {
     /// Whether this is an end that is looked for. `usual` is that of one worker.
-    pub(crate) fn is(&self, wanted: Wanted, usual: &Told) -> bool {
+    pub(crate) fn is(&self, wanted: Wanted, usual: &Account) -> bool {
         match wanted {
             Wanted::Unfinished | Wanted::Failed | Wanted::Cancelled => {
                 does_suit(Some(wanted), self.root)
@@ -206,13 +206,13 @@ impl Told {
         }
     }
 
-    pub(crate) fn is_same(&self, other: &Told) -> bool {
+    pub(crate) fn is_same(&self, other: &Account) -> bool {
         self.apart == other.apart
     }
 
     /// The same once more.
-    pub(crate) fn copied(&self, alloc: Global) -> Result<Told, Memory> {
-        Ok(Told {
+    pub(crate) fn copied(&self, alloc: Global) -> Result<Account, Memory> {
+        Ok(Account {
             root: self.root,
             lines: lines_told(alloc, self.lines.as_slice(), Tell::All)?,
             apart: lines_told(alloc, self.apart.as_slice(), Tell::All)?,

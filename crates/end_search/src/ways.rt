@@ -10,7 +10,7 @@ ghost use Rattle.engine_one.specs.Trials.{TrialStands};
 use crate::parts::{Desk, Part, Reached, Span, Task, parts_of};
 use crate::samples::{Numbers, random_order, runs_of};
 use crate::states::States;
-use crate::wanted::{Tell, Told, Wanted, told_of};
+use crate::wanted::{Account, Tell, Wanted, told_of};
 use co_base::{Gate, Memory, Sink, Tag, write_all};
 use engine_one::{Trial, run_in_order};
 use note_book::Notes;
@@ -41,7 +41,7 @@ pub enum Verdict {
 #[derive(Drop)]
 pub(crate) struct Way {
     pub(crate) order: Vec<Tag>,
-    told: Told,
+    told: Account,
 }
 
 /// What a search came to.
@@ -78,7 +78,7 @@ struct Course {
     states: States,
     ends: Vec<Way>,
     /// What is told of the end of one worker.
-    usual: Told,
+    usual: Account,
 }
 
 /// The ends that some order of whole polls leads to, each once.
@@ -371,7 +371,7 @@ fn way_of<G: Gate>(
 }
 
 /// Whether it is an end that is looked for, and none of these.
-fn is_new(ends: &Vec<Way>, way: &Way, wanted: Option<Wanted>, usual: &Told) -> bool {
+fn is_new(ends: &Vec<Way>, way: &Way, wanted: Option<Wanted>, usual: &Account) -> bool {
     if let Some(wanted) = wanted {
         if !way.told.is(wanted, usual) {
             return false;

@@ -38,7 +38,7 @@ fn begin(hub: &Hub, pass: &mut Pass, who: Tag) -> Option<Place>
 }
 
 /// Places clause 2 of the select that began at this place: it receives at channel 1.
-fn join(hub: &Hub, pass: &mut Pass, who: Tag, place: Option<Place>) -> Option<Registered>
+fn place_second(hub: &Hub, pass: &mut Pass, who: Tag, place: Option<Place>) -> Option<Registered>
     requires own { IsOwn hub.now pass.old who }
     requires channel { 1 < length (shape_of hub.now) }
     requires joins { MatchOption place (Unit {0}) (λ p. JoinsWait who 2 1 ((replay (seen_by pass.old).seen).waits (spot 0 p))) }
@@ -79,7 +79,7 @@ fn a_select_at_two_channels_is_taken_at_one(rt: HostRuntime) -> Result<(), Fail>
     let mut a = hub.split(&mut main, 1);
     let mut b = hub.split(&mut main, 2);
     let first = begin(&hub, &mut a, 1);
-    let second = join(&hub, &mut a, 1, first);
+    let second = place_second(&hub, &mut a, 1, first);
     // At the other channel it stands no more.
     let offered = [offer(&hub, &mut b, 2, 1, 7), offer(&hub, &mut b, 2, 0, 8)];
     let settled = settle(&hub, &mut a, 1, 0, false);
@@ -100,7 +100,7 @@ fn a_select_that_was_withdrawn_stands_nowhere(rt: HostRuntime) -> Result<(), Fai
     let mut a = hub.split(&mut main, 1);
     let mut b = hub.split(&mut main, 2);
     let first = begin(&hub, &mut a, 1);
-    let second = join(&hub, &mut a, 1, first);
+    let second = place_second(&hub, &mut a, 1, first);
     let withdrawn = withdraw(&hub, &mut a, 1, 0);
     let offered = [offer(&hub, &mut b, 2, 0, 5), offer(&hub, &mut b, 2, 1, 6)];
     let wanted = (
@@ -120,7 +120,7 @@ fn a_clause_is_not_placed_where_its_select_was_resolved(rt: HostRuntime) -> Resu
     let mut b = hub.split(&mut main, 2);
     let first = begin(&hub, &mut a, 1);
     let offered = offer(&hub, &mut b, 2, 0, 5);
-    let second = join(&hub, &mut a, 1, first);
+    let second = place_second(&hub, &mut a, 1, first);
     // The sender waits even where the channel would keep the element, and is the partner of who receives.
     let registered = [
         begin_to_send(&hub, &mut b, 2, 1, 6),

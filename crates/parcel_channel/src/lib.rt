@@ -46,4 +46,4 @@ pub use answers::{ParcelGot, ParcelOffered, ParcelSent, ParcelSettled, ParcelTri
 pub use hub::{ParcelHub, ParcelPass, ParcelTable};
 pub use laws::{each_number_is_moved_once, there_is_one_list_of_moves};
 pub use parcel::{ParcelAct, ParcelEntry};
-pub use rule::{InParcels, ParcelSeat, ParcelWords};
+pub use rule::{ParcelRule, ParcelSeat, ParcelWords};

@@ -37,6 +37,6 @@ pub line_fails : (fault : NoReport) (n : ℕ) (s t : Read) (rest line : List ℕ
 line_fails Memory n s t rest line more all inv is bad = tt
 line_fails (AtLine m) n s t rest line more all inv is bad = lines_fail n s rest line more all inv is bad.0 ∙ ap Err (sym bad.1)
 
-pub lines_done : (n : ℕ) (s : Read) (b : Bool) → has_jobs s.stage ≡ b → lines_from n s [] ≡ (if b then Ok s.lines else Err n)
+pub lines_done : (n : ℕ) (s : Read) (b : Bool) → has_jobs s.section ≡ b → lines_from n s [] ≡ (if b then Ok s.lines else Err n)
 unfolding lines_from
 lines_done n s b is = ap (λ (t : Bool). if t then Ok s.lines else Err n) is

@@ -7,21 +7,15 @@ use Rattle.std.proofs.lemmas.Str.{IsUtf8-from_ascii}
 use Rattle.std.specs.Str.{all_ascii_digits, IsUtf8}
 use Rattle.std.specs.Str.Parse.{digits_value, ParsesUnsigned}
 use Rattle.std.specs.Result.{result_ok}
+use Rattle.std.proofs.lemmas.Bool.{lt-ltb, and_parts}
 use Rattle.report_reader.specs.Words.{is_number, value_at}
-
-lt-true : (a b : ℕ) → a < b → nat_lt a b ≡ true
-lt-true a b h = grind (arith, nat_tests)
 
 pub own : IsNumeralModel (λ ds. all_ascii_digits ds ≡ true) (digits_value 10)
 own = numerals_by_value _ tells_all_ascii_digits
 
-first_true : (a b : Bool) → (a && b) ≡ true → a ≡ true
-first_true true b e = refl
-first_true false b e = e
-
 pub number_digits : (word : List ℕ) → is_number word ≡ true → all_ascii_digits word ≡ true
 number_digits [] n = cc
-number_digits (b ∷ rest) n = first_true _ _ n
+number_digits (b ∷ rest) n = (and_parts _ _ n).0
 
 pub number_some : (word : List ℕ) → is_number word ≡ true → 0 < length word
 number_some [] n = cc
@@ -47,7 +41,7 @@ pub parsed : {E : Type 0} (word : List ℕ) (r : Result ℕ E) → is_number wor
     → result_ok r ≡ value_at word
 parsed {E} word (Ok x) n h =
     let k = parse_digits own {E = E} 32 word (Ok x) h (number_digits word n) in
-    chosen (is_number word) (nat_lt (digits_value 10 word) (2 ^ 32)) (digits_value 10 word) x n (lt-true _ _ k.0.1) k.1
+    chosen (is_number word) (nat_lt (digits_value 10 word) (2 ^ 32)) (digits_value 10 word) x n (lt-ltb _ _ k.0.1) k.1
 parsed {E} word (Err e) n h =
     let k = parse_digits own {E = E} 32 word (Err e) h (number_digits word n) in
     refused (is_number word) (nat_lt (digits_value 10 word) (2 ^ 32)) (digits_value 10 word)

@@ -17,7 +17,7 @@ told_lines lines = map told lines
 
 -- what was read so far
 abbrev pub view : Reading → Read
-view r = record { stage = r.stage; lines = told_lines r.lines.items }
+view r = record { section = r.section; lines = told_lines r.lines.items }
 
 -- the lines that are to be read, or the number of the line at fault, unless memory ran out
 abbrev pub Gives : Result (Vec Line Global) NoReport → Result (List Told) ℕ → Type 0

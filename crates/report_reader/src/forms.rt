@@ -19,7 +19,7 @@ fn is_channel(word: &[u8]) -> bool
 }
 
 /// Whether these are a channel and a place, with nothing behind them.
-fn is_pair(channel: &[u8], place: &[u8], more: Option<&[u8]>) -> bool
+fn is_channel_and_place(channel: &[u8], place: &[u8], more: Option<&[u8]>) -> bool
     ensures { result ≡ are_channel_and_place (channel.now ∷ parts 46 place.now more.entry) }
 {
     match more {
@@ -33,7 +33,7 @@ fn is_wait_of(channel: &[u8], rest: &[u8]) -> bool
     ensures { result ≡ are_channel_and_place (channel.now ∷ slice_split (λ b. b == 46) rest.now) }
 {
     let (place, more) = cut_at(b'.', rest);
-    is_pair(channel, place, more)
+    is_channel_and_place(channel, place, more)
 }
 
 /// Whether a word is a wait.

@@ -13,7 +13,7 @@ pub enum Said {
 
 /// Which lines may follow.
 #[derive(Clone, Copy, Debug, PartialEq, Eq)]
-pub(crate) enum Stage {
+pub(crate) enum Section {
     /// Lines of books from this tag on, or the line of the root's Job.
     Books(u32),
     /// Lines of Jobs behind this row, or lines of elements.

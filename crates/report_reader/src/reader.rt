@@ -2,41 +2,41 @@
 
 ghost use Rattle.std.specs.Prelude.{◌≡◌, ◌≤◌, [], IfOk, length};
 ghost use Rattle.report_reader.specs.Forms.{said_of};
-ghost use Rattle.report_reader.specs.Reports.{has_jobs, read_line, lines_from, report_of, stage_after};
+ghost use Rattle.report_reader.specs.Reports.{has_jobs, read_line, lines_from, report_of, section_after};
 ghost use Rattle.report_reader.specs.Reading.{Gives, Leaves, LeavesAt, view};
 
 use crate::forms::said_by;
-use crate::line::{Line, NoReport, Said, Stage};
+use crate::line::{Line, NoReport, Said, Section};
 use crate::words::{cut_at, trimmed, words_of};
 use std::alloc::{AllocError, Global};
 
 /// The lines so far, and which may follow.
 #[derive(Drop)]
 pub(crate) struct Reading<'a> {
-    pub(crate) stage: Stage,
+    pub(crate) section: Section,
     pub(crate) lines: Vec<Line<'a>>,
 }
 
 /// Which lines may follow this one, if it may follow.
-fn stage_after(stage: Stage, said: Said) -> Option<Stage>
-    ensures { result ≡ stage_after stage said }
+fn section_after(section: Section, said: Said) -> Option<Section>
+    ensures { result ≡ section_after section said }
 {
-    match (stage, said) {
-        (Stage::Books(last), Said::Note(tag)) if last <= tag => Some(Stage::Books(tag)),
-        (Stage::Books(_), Said::Job(row)) if row == 0 => Some(Stage::Jobs(row)),
-        (Stage::Jobs(last), Said::Job(row)) if last < row => Some(Stage::Jobs(row)),
-        (Stage::Jobs(_) | Stage::Elements, Said::Element) => Some(Stage::Elements),
+    match (section, said) {
+        (Section::Books(last), Said::Note(tag)) if last <= tag => Some(Section::Books(tag)),
+        (Section::Books(_), Said::Job(row)) if row == 0 => Some(Section::Jobs(row)),
+        (Section::Jobs(last), Said::Job(row)) if last < row => Some(Section::Jobs(row)),
+        (Section::Jobs(_) | Section::Elements, Said::Element) => Some(Section::Elements),
         _ => None,
     }
 }
 
 /// Whether the lines of the Jobs have begun.
-fn has_jobs(stage: Stage) -> bool
-    ensures { result ≡ has_jobs stage }
+fn has_jobs(section: Section) -> bool
+    ensures { result ≡ has_jobs section }
 {
-    match stage {
-        Stage::Books(_) => false,
-        Stage::Jobs(_) | Stage::Elements => true,
+    match section {
+        Section::Books(_) => false,
+        Section::Jobs(_) | Section::Elements => true,
     }
 }
 
@@ -59,11 +59,11 @@ fn read_line<'a>(
     let Some(said) = said_of(words, line)? else {
         return Ok(false);
     };
-    let Some(stage) = stage_after(reading.stage, said) else {
+    let Some(section) = section_after(reading.section, said) else {
         return Ok(false);
     };
     reading.lines.push(Line { said, text: line })?;
-    reading.stage = stage;
+    reading.section = section;
     Ok(true)
 }
 
@@ -89,7 +89,7 @@ pub fn read<'a>(alloc: Global, bytes: &'a [u8]) -> Result<Vec<Line<'a>>, NoRepor
     ensures { Gives result (report_of bytes.now) }
 {
     let mut reading = Reading {
-        stage: Stage::Books(0),
+        section: Section::Books(0),
         lines: Vec::new(alloc),
     };
     let mut words = Vec::new(alloc);
@@ -112,7 +112,7 @@ pub fn read<'a>(alloc: Global, bytes: &'a [u8]) -> Result<Vec<Line<'a>>, NoRepor
 fn finished<'a>(reading: Reading<'a>, number: u32) -> Result<Vec<Line<'a>>, NoReport>
     ensures { Gives result (lines_from number (view reading.entry) []) }
 {
-    if has_jobs(reading.stage) {
+    if has_jobs(reading.section) {
         Ok(reading.lines)
     } else {
         Err(NoReport::AtLine(number))

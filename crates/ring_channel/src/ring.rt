@@ -5,13 +5,13 @@ ghost use Rattle.worded.specs.Views.{is_bare};
 ghost use Rattle.ring_channel.specs.Seen.{IsTable, IsSeated, IsIdle};
 
 use crate::act::RingEntry;
-use crate::rule::{InRing, RingSeat};
+use crate::rule::{RingRule, RingSeat};
 use atomic_table::Table;
 use std::alloc::Global;
 use worded::View;
 
 /// The words and slots of a ring, with their memory.
-pub type RingTable<T> = Table<Option<T>, View<RingEntry<T>, u32>, u32, InRing<T>, Global>;
+pub type RingTable<T> = Table<Option<T>, View<RingEntry<T>, u32>, u32, RingRule<T>, Global>;
 
 /// A channel of owned values, on which many threads call at once, each with a pass of its own. With the ring its values are dropped.
 #[derive(Drop)]

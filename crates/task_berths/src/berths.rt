@@ -3,7 +3,7 @@ ghost use Rattle.std.specs.Prelude.{◌≡◌, true, [], None};
 ghost use Rattle.task_berths.specs.Tables.{IsTable};
 
 use crate::closing::{move_in, move_out, zeros};
-use crate::rule::{InBerths, SeatView};
+use crate::rule::{BerthRule, SeatView};
 use crate::steps::{join_to, put_back, split_off};
 use crate::tagged::Tagged;
 use crate::taking::{Taken, take_at};
@@ -14,7 +14,7 @@ use std::alloc::Global;
 /// The berths of some tasks, which many threads use at once, each with a seat of its own.
 #[derive(Drop)]
 pub struct Berths<T: Tagged + Drop> {
-    table: Table<Option<T>, SeatView, (), InBerths<T>, Global>,
+    table: Table<Option<T>, SeatView, (), BerthRule<T>, Global>,
     count: Tag,
     ghost sized: { IsTable table.shared.table_id × (table.shared.table_id.slots ≡ count) },
 }

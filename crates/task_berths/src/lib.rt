@@ -40,6 +40,6 @@ mod taking;
 
 pub use berths::{BerthSeat, Berths};
 pub use laws::{each_task_is_at_home_or_out, each_word_says_where_its_task_is};
-pub use rule::{BerthStep, InBerths, SeatView};
+pub use rule::{BerthRule, BerthStep, SeatView};
 pub use tagged::Tagged;
 pub use taking::Taken;

@@ -38,11 +38,11 @@ pub struct SeatView {
 }
 
 /// The rule of the berths: each task is at home, or with the one seat whose number its word has.
-pub struct InBerths<T> {
+pub struct BerthRule<T> {
     marker: PhantomData<T>,
 }
 
-impl<T: Tagged> TableRule<Option<T>, SeatView, ()> for InBerths<T> {
+impl<T: Tagged> TableRule<Option<T>, SeatView, ()> for BerthRule<T> {
     ghost use Rattle.task_berths.specs.Views.{first_view};
     ghost use Rattle.task_berths.specs.Homes.{HoldsTasks};
 

@@ -4,14 +4,14 @@ ghost use Rattle.task_berths.specs.Views.{has_tag, carrying, having_split, new_s
 ghost use Rattle.task_berths.specs.Steps.{ClaimAnswer, AskAnswer, LiftAnswer, Left};
 ghost use Rattle.task_berths.specs.Tables.{IsTable};
 
-use crate::rule::{InBerths, SeatView};
+use crate::rule::{BerthRule, SeatView};
 use crate::tagged::Tagged;
 use atomic_table::{Join, Play, Seat, Shared, Split};
 use co_base::Tag;
 use std::marker::PhantomData;
 
 /// The words and slots of the berths.
-pub(crate) type Words<T> = Shared<Option<T>, SeatView, (), InBerths<T>>;
+pub(crate) type Words<T> = Shared<Option<T>, SeatView, (), BerthRule<T>>;
 
 // The task was taken, or is with another seat.
 struct Claiming<T> {

@@ -58,7 +58,7 @@ fn begin(hub: &Hub, pass: &mut Pass, who: Tag) -> Option<Place>
 }
 
 /// Places the second clause of the select that began at this place: it receives from the second channel.
-fn join(hub: &Hub, pass: &mut Pass, who: Tag, place: Place) -> Registered
+fn place_second(hub: &Hub, pass: &mut Pass, who: Tag, place: Place) -> Registered
     requires own { IsOwn hub.now pass.old who }
     requires channels { CarryElements hub.now }
     requires joins { JoinsWait who 2 1 ((replay (seen_by pass.old).seen).waits (spot 0 place)) }
@@ -77,7 +77,7 @@ fn waits_on_both(hub: &Hub, pass: &mut Pass, who: Tag) -> bool
     let Some(place) = begin(hub, pass, who) else {
         return false;
     };
-    match join(hub, pass, who, place) {
+    match place_second(hub, pass, who, place) {
         Registered::Stands(_) | Registered::Resolved => true,
         Registered::Partner(_) | Registered::Closed(_) | Registered::Spent => {
             matches!(withdraw(hub, pass, who, place), Some(Withdrawn::Late))
