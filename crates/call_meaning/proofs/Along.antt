@@ -18,7 +18,7 @@ use Rattle.job_model.proofs.Histories.{acts_of-append as job_acts_of-append}
 use Rattle.note_book.specs.declared.book.Item.{Item}
 use Rattle.note_book.specs.Items.{channel_acts_in, job_acts_in}
 use Rattle.note_book.proofs.Appended.{channel_acts_in-append, job_acts_in-append}
-use Rattle.call_meaning.specs.Telling.{Told, note, on_channels, on_jobs, items_in}
+use Rattle.call_meaning.specs.Telling.{Told, note, items_in}
 use Rattle.call_meaning.specs.Facts.{ToldHolds}
 use Rattle.call_meaning.specs.Stories.{Moment, IsBy, Story, IsTrue, with_told, story_of}
 use Rattle.call_meaning.specs.Orders.{IsTrueAlong, HasHeard, HasTold, IsAt, WasSoAlong}
@@ -79,8 +79,7 @@ along_sooner s order items earliest earlier (x ∷ told) b (at, so, rest) = (
 items_then : (x : Told) (items : List Item) (told : List Told) → with_told x items ++ items_in told ≡ items ++ items_in (x ∷ told)
 unfolding items_in
 items_then (note i) items told = append_assoc items (i ∷ []) (items_in told)
-items_then (on_channels fact) items told = refl
-items_then (on_jobs fact) items told = refl
+items_then other items told = refl
 
 pub along_then : (s : Story) (order between : List Side) (items : List Item) (earlier : List Side) (xs ys : List Told)
     → IsPrefix earlier between → IsPrefix between order
@@ -107,7 +106,7 @@ along_then s order between items earlier (x ∷ xs) ys b c (at, so, rest) v = (
 whole_taken : {A : Type 0} (n : ℕ) (xs : List A) → n ≡ length xs → take n xs ≡ xs
 whole_taken n xs e = ap (λ m. take m xs) e ∙ ap (λ l. take (length xs) l) (sym (append-nil xs)) ∙ take-append_seam xs []
 
-take_front : {A : Type 0} (m n : ℕ) (xs : List A) → m ≤ n → IsPrefix (take m xs) (take n xs)
+pub take_front : {A : Type 0} (m n : ℕ) (xs : List A) → m ≤ n → IsPrefix (take m xs) (take n xs)
 take_front zero n xs h = (take n xs, refl)
 take_front (suc m) zero xs h = let none : ⊥ = omega (arith, h) in absurd none
 take_front (suc m) (suc n) [] h = ([], refl)
@@ -116,7 +115,7 @@ take_front (suc m) (suc n) (x ∷ xs) h =
     let r = take_front m n xs less in
     (r.0, ap (λ l. x ∷ l) r.1)
 
-take_prefix : {A : Type 0} (n : ℕ) (xs : List A) → IsPrefix (take n xs) xs
+pub take_prefix : {A : Type 0} (n : ℕ) (xs : List A) → IsPrefix (take n xs) xs
 take_prefix zero xs = (xs, refl)
 take_prefix (suc n) [] = ([], refl)
 take_prefix (suc n) (x ∷ xs) = let r = take_prefix n xs in (r.0, ap (λ l. x ∷ l) r.1)

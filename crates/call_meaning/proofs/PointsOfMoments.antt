@@ -34,7 +34,7 @@ whatever_jobs shape (note (item.Job n)) s t t' is h = absurd is
 whatever_jobs shape (on_channels fact) s t t' is h = h
 whatever_jobs shape (on_jobs fact) s t t' is h = absurd is
 
-whatever_channels : (shape : Shape) (x : Told) (s s' : State) (t : Tree) → IsOfJobs x → ToldHolds shape x s t → ToldHolds shape x s' t
+pub whatever_channels : (shape : Shape) (x : Told) (s s' : State) (t : Tree) → IsOfJobs x → ToldHolds shape x s t → ToldHolds shape x s' t
 whatever_channels shape (note (item.Channel n)) s s' t is h = absurd is
 whatever_channels shape (note (item.Job n)) s s' t is h = h
 whatever_channels shape (on_channels fact) s s' t is h = absurd is

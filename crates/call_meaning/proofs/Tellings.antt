@@ -5,7 +5,7 @@ use Rattle.channel_model.specs.Channels.{Shape}
 use Rattle.channel_model.proofs.Spans.{nothing_more, prefix_then}
 use Rattle.job_model.proofs.Spans as jobs
 use Rattle.note_book.specs.declared.book.Item.{Item}
-use Rattle.call_meaning.specs.Telling.{Told, note, on_channels, on_jobs, items_in}
+use Rattle.call_meaning.specs.Telling.{Told, note, items_in}
 use Rattle.call_meaning.specs.Stories.{Moment, IsBy, Story, IsTrue, with_told}
 
 pub by_then : (a b c : Moment) → IsBy a b → IsBy b c → IsBy a c
@@ -57,8 +57,7 @@ true_sooner s items earliest earlier (x ∷ told) b (at, so, rest) = (
 items_then : (x : Told) (items : List Item) (told : List Told) → with_told x items ++ items_in told ≡ items ++ items_in (x ∷ told)
 unfolding items_in
 items_then (note i) items told = append_assoc items (i ∷ []) (items_in told)
-items_then (on_channels fact) items told = refl
-items_then (on_jobs fact) items told = refl
+items_then other items told = refl
 
 -- one call after another: the second is told of moments not before the histories at which the first returned
 pub true_then : (shape : Shape) (k : ℕ) (between now : Moment) (items : List Item) (earlier : Moment) (xs ys : List Told)

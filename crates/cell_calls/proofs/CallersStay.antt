@@ -23,9 +23,8 @@ use Rattle.cell_calls.specs.Desks.{desk_floor, desk_anchor}
 pub offer_callers : (who c v : ℕ) (a b : Floor) (r : Offered) → OfferAnswer who c v a b r → b.callers ≡ a.callers
 offer_callers who c v a b (offered.Handed p t) h = h.made.same.callers
 offer_callers who c v a b (offered.Put p) h = h.same.callers
-offer_callers who c v a b (offered.Held p) h = h.0.same.callers
 offer_callers who c v a b (offered.Closed x) h = h.looked.same.callers
-offer_callers who c v a b offered.Spent h = h.0.same.callers
+offer_callers who c v a b other h = h.0.same.callers
 
 pub got_callers : (who c : ℕ) (a b : Floor) (r : Got) → GotAnswer who c a b r → b.callers ≡ a.callers
 got_callers who c a b (got.Taken p v t) h = h.made.same.callers
@@ -41,18 +40,14 @@ withdraw_callers who w why a b withdrawn.Late h = h.0.same.callers
 pub register_offer_callers : (who k c v : ℕ) (main : Option WaitId) (a b : Floor) (r : Registered)
     → RegisterOfferAnswer who main k c v a b r → b.callers ≡ a.callers
 register_offer_callers who k c v main a b (registered.Stands p) h = h.same.callers
-register_offer_callers who k c v main a b (registered.Partner p) h = h.0.same.callers
 register_offer_callers who k c v main a b (registered.Closed x) h = h.looked.same.callers
-register_offer_callers who k c v main a b registered.Spent h = h.0.same.callers
-register_offer_callers who k c v main a b registered.Resolved h = h.0.same.callers
+register_offer_callers who k c v main a b other h = h.0.same.callers
 
 pub register_receive_callers : (who k c : ℕ) (main : Option WaitId) (a b : Floor) (r : Registered)
     → RegisterReceiveAnswer who main k c a b r → b.callers ≡ a.callers
 register_receive_callers who k c main a b (registered.Stands p) h = h.same.callers
-register_receive_callers who k c main a b (registered.Partner p) h = h.0.same.callers
 register_receive_callers who k c main a b (registered.Closed x) h = h.0.looked.same.callers
-register_receive_callers who k c main a b registered.Spent h = h.0.same.callers
-register_receive_callers who k c main a b registered.Resolved h = h.0.same.callers
+register_receive_callers who k c main a b other h = h.0.same.callers
 
 -- a pass after a call on its desk
 pub stays_own : (a b : Desk) (who : ℕ) → desk_anchor b ≡ desk_anchor a → (desk_floor b).callers ≡ (desk_floor a).callers

@@ -1,6 +1,6 @@
 -- What the steps of a pass tell of its floor.
 use Rattle.std.proofs.Common.{◌≡◌, ℕ, ◌+◌, ◌≤◌, Bool, true, false, true≢false, List, [], ◌∷◌, ◌++◌, Option, Some, None, is_some, sym, refl, ap, ◌∙◌, subst, arith, append-nil}
-use Rattle.co_base.proofs.Orders.{order_same, order_then}
+use Rattle.co_base.proofs.Orders.{order_then}
 use mathlib.Core.List.{IsPrefix}
 use mathlib.Core.Logic.{dite}
 use native.Mathlib.Decide.{dec_le}
@@ -27,17 +27,6 @@ use Rattle.cell_words.specs.Answers.{MayRemove, MayRemoveHeld, RemovesFrom, Void
 use Rattle.cell_words.proofs.MayExchange.{same_acts}
 use Rattle.cell_words.proofs.LooksAtCells.{sees_then}
 use Rattle.cell_calls.specs.HubFloors.{hub_floor}
-
-pub sees_self : (v : Seen) → Sees v v
-sees_self v = record {
-  others = [];
-  now = sym (append-nil v.seen);
-  apart = λ t h. refl;
-  tags = refl;
-  giving = refl;
-  order =
-      order_same v.order;
-}
 
 pub prefix_seen : (v w : Seen) → Sees v w → IsPrefix v.seen w.seen
 prefix_seen v w s = (s.others, sym s.now)
@@ -170,14 +159,8 @@ voided_seen shape c v w s l h = subst (λ (es : List Entry). (at_channel es c).v
 pub may_admitted : (shape : Shape) (by : Removal) (c p : ℕ) (v w : Seen) → Sees v w → Legal shape w.seen → MayRemoveHeld by c v.seen
     → MayRemove by shape c p w.seen
 may_admitted shape removal.Take c p v w s l h = tt
-may_admitted shape removal.Drop c p v w s l h = absurd h
-may_admitted shape removal.Spurn c p v w s l h = absurd h
 may_admitted shape removal.Drain c p v w s l h = voided_seen shape c v w s l h
-
-pub closed_seen : (shape : Shape) (c y : ℕ) (v w : Seen) → Sees v w → Legal shape w.seen → (at_channel v.seen c).closed ≡ Some y
-    → (at_channel w.seen c).closed ≡ Some y
-closed_seen shape c y v w s l h = subst (λ (es : List Entry). (at_channel es c).closed ≡ Some y) (sym s.now)
-    (closed_later shape v.seen s.others c y (subst (Legal shape) s.now l) h)
+may_admitted shape other c p v w s l h = absurd h
 
 -- what was closed is not open
 pub not_open : (shape : Shape) (c : ℕ) (v w : Seen) → Sees v w → Legal shape w.seen → is_some (at_channel v.seen c).closed ≡ true

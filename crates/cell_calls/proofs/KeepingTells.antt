@@ -5,7 +5,7 @@ use Rattle.std.proofs.lemmas.Bool.Decides.{nat_tests}
 use Rattle.std.proofs.lemmas.Bool.{eqb-true, and_parts}
 use Rattle.worded.specs.Views.{has_tag}
 use Rattle.channel_model.specs.declared.acts.Kind.{Kind}
-use Rattle.channel_model.specs.declared.acts.Kind.TheVariants.{Rendezvous, Buffered, Unlimited, Conflated, DropOldest, DropLatest, Signal}
+use Rattle.channel_model.specs.declared.acts.Kind.TheVariants.{Rendezvous, Buffered, Unlimited, DropOldest}
 use Rattle.channel_model.specs.declared.acts.Act.{Act}
 use Rattle.channel_model.specs.declared.acts.Act.TheVariants.{Hand, Put, Admit}
 use Rattle.channel_model.specs.declared.acts.Entry.{Entry}
@@ -32,7 +32,8 @@ use Rattle.cell_words.proofs.CellsLast.{kept_more}
 use Rattle.cell_words.proofs.LooksAtCells.{sees_then, given_seen}
 use Rattle.cell_words.proofs.HeldWhereSendsWait.{is_offer, never_held}
 use Rattle.cell_calls.specs.HubFloors.{hub_floor}
-use Rattle.cell_calls.proofs.CallsTell.{sees_self, looked_of, made_of, step_of, prefix_seen, no_more_places}
+use Rattle.cell_calls.proofs.CallsTell.{looked_of, made_of, step_of, prefix_seen, no_more_places}
+use Rattle.cell_words.proofs.WalksToAdmit.{sees_self}
 
 -- ---- an admittance
 
@@ -78,13 +79,8 @@ spurning_waits_not Unlimited most h = refl
 spurning_waits_not other most h = refl
 
 drops_none : (kind : Kind) → drops kind 0 ≡ false
-drops_none Rendezvous = refl
-drops_none (Buffered k) = refl
-drops_none Unlimited = refl
-drops_none Conflated = refl
 drops_none (DropOldest k) = grind (arith, nat_tests)
-drops_none (DropLatest k) = refl
-drops_none Signal = refl
+drops_none other = refl
 
 -- no offer waits in a channel that drops
 pub nobody_waits : (shape : Shape) (c p : ℕ) (x : Waiter) (log : List Entry) → Legal shape log → suspends (kind_at shape c) ≡ false

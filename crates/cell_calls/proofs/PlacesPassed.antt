@@ -2,7 +2,7 @@
 use Rattle.std.specs.Prelude.{◌≡◌, ℕ, ◌+◌, ◌≤◌, nat_le, Bool, true, false, not, cond, List, [], ◌∷◌, ◌++◌, filter, Option, Some, None, refl}
 use Rattle.std.specs.List.{list_all}
 use Rattle.std.proofs.Common.{sym, ap, subst, arith}
-use Rattle.std.proofs.lemmas.Bool.Decides.{nat_tests}
+use Rattle.std.proofs.lemmas.Bool.{le-leb}
 use Rattle.co_base.specs.declared.names.WaitId.{WaitId}
 use Rattle.channel_model.specs.declared.acts.Act.TheVariants.{Hand, Put, Offer, Await, WakeClosed}
 use Rattle.channel_model.specs.declared.acts.Entry.{Entry}
@@ -26,22 +26,19 @@ use Rattle.cell_words.specs.declared.found.Removal.{Removal}
 use Rattle.cell_words.specs.declared.found.Removal.TheVariants as removal
 use Rattle.cell_words.specs.Answers.{RemovesFrom}
 
-at_least : (n m : ℕ) → n ≤ m → nat_le n m ≡ true
-at_least n m h = grind (arith, nat_tests)
-
 -- ---- lists of those who stand
 
 module _ {X : Type 0} (number : X → ℕ) where
   all_from_zero : (xs : List X) → list_all (λ x. nat_le 0 (number x)) xs ≡ true
   all_from_zero [] = refl
-  all_from_zero (x ∷ xs) = all_more (λ x. nat_le 0 (number x)) x xs (at_least 0 (number x) (omega arith)) (all_from_zero xs)
+  all_from_zero (x ∷ xs) = all_more (λ x. nat_le 0 (number x)) x xs (le-leb 0 (number x) (omega arith)) (all_from_zero xs)
 
   all_above : (n m : ℕ) (xs : List X) → Ascends number n m xs → list_all (λ x. nat_le n (number x)) xs ≡ true
   all_above n m xs a = from n xs (omega arith) a
     where
       from : (k : ℕ) (ys : List X) → n ≤ k → Ascends number k m ys → list_all (λ x. nat_le n (number x)) ys ≡ true
       from k [] le b = refl
-      from k (y ∷ ys) le b = all_more (λ x. nat_le n (number x)) y ys (at_least n (number y) (let g = b.0 in omega arith))
+      from k (y ∷ ys) le b = all_more (λ x. nat_le n (number x)) y ys (le-leb n (number y) (let g = b.0 in omega arith))
           (from (number y + 1) ys (let g = b.0 in omega arith) b.1)
 
   ends_above : (n m : ℕ) (xs : List X) → Ascends number n m xs → n ≤ m
@@ -153,10 +150,8 @@ entry_leaves shape v w e P m l f =
 
 -- the act removes what stands first
 abbrev pub FromFront : Removal → Type 0
-FromFront removal.Take = Unit {0}
-FromFront removal.Drop = Unit {0}
 FromFront removal.Spurn = ⊥
-FromFront removal.Drain = Unit {0}
+FromFront other = Unit {0}
 
 module _ (shape : Shape) (who c p : ℕ) (old new : Seen) (l : Legal shape new.seen) where
   pub held_past : (v k : ℕ) (w : WaitId) → Makes old (record { who = who; act = Offer c p v w k }) new

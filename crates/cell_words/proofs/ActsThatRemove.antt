@@ -2,7 +2,7 @@
 use Rattle.std.proofs.Common.{◌≡◌, ℕ, true, arith}
 use Rattle.std.proofs.lemmas.Bool.Decides.{nat_tests}
 use Rattle.channel_model.specs.declared.acts.Act.{Act}
-use Rattle.channel_model.specs.declared.acts.Act.TheVariants.{Hand, Put, Offer, Await, Take, Admit, Drop, Spurn, Close, Void, Drain, WakeClosed, Withdraw, Settle}
+use Rattle.channel_model.specs.declared.acts.Act.TheVariants.{Take, Drop, Spurn, Drain}
 use Rattle.channel_model.specs.Fates.{removes, is_at}
 use Rattle.cell_words.specs.declared.found.Removal.{Removal}
 use Rattle.cell_words.specs.declared.found.Removal.TheVariants as removal
@@ -19,17 +19,8 @@ removing_removes removal.Take c p v = same_place c p
 removing_removes other c p v = same_place c p
 
 pub removes_only : (act : Act) (c p : ℕ) → removes c p act ≡ true → IsRemovalAt c p act
-removes_only (Hand d q v) c p e = cc
-removes_only (Put d q v) c p e = cc
-removes_only (Offer d q v w k) c p e = cc
-removes_only (Await d q w k) c p e = cc
 removes_only (Take d q v) c p e = let h = at_place c p d q e in record { by = removal.Take; value = v; is = λ i. Take (h.0 i) (h.1 i) v }
-removes_only (Admit d q) c p e = cc
 removes_only (Drop d q v) c p e = let h = at_place c p d q e in record { by = removal.Drop; value = v; is = λ i. Drop (h.0 i) (h.1 i) v }
 removes_only (Spurn d q v) c p e = let h = at_place c p d q e in record { by = removal.Spurn; value = v; is = λ i. Spurn (h.0 i) (h.1 i) v }
-removes_only (Close d v) c p e = cc
-removes_only (Void d) c p e = cc
 removes_only (Drain d q v) c p e = let h = at_place c p d q e in record { by = removal.Drain; value = v; is = λ i. Drain (h.0 i) (h.1 i) v }
-removes_only (WakeClosed d q) c p e = cc
-removes_only (Withdraw w why) c p e = cc
-removes_only (Settle w outcome) c p e = cc
+removes_only other c p e = cc

@@ -4,12 +4,9 @@ use Rattle.std.specs.List.{list_all}
 use Rattle.channel_model.specs.declared.acts.Act.{Act}
 use Rattle.channel_model.specs.declared.acts.Act.TheVariants.{Hand, Put, Offer, Await, Take, Admit, Drop, Spurn, Close, Void, Drain, WakeClosed, Withdraw, Settle}
 use Rattle.channel_model.specs.declared.acts.Entry.{Entry}
-use Rattle.channel_model.specs.declared.acts.Kind.{Kind}
-use Rattle.channel_model.specs.declared.acts.Kind.TheVariants.{Rendezvous, Buffered, Unlimited, Conflated, DropOldest, DropLatest, Signal}
-use Rattle.channel_model.specs.declared.standing.Party.{Party}
 use Rattle.channel_model.specs.declared.standing.Standing.{Standing}
 use Rattle.channel_model.specs.declared.standing.Resolution.TheVariants as resolved
-use Rattle.channel_model.specs.Channels.{Shape, State, start, kind_at, places_at, drops, spurns, suspends}
+use Rattle.channel_model.specs.Channels.{Shape, State, start, kind_at, places_at, drops}
 use Rattle.channel_model.specs.Effects.{close_value}
 use Rattle.channel_model.specs.Needs.{Needs}
 use Rattle.channel_model.specs.Histories.{replay_from, Legal, LegalFrom}
@@ -21,31 +18,8 @@ use Rattle.cell_words.proofs.OffersAdmitted.{ties_admit}
 use Rattle.channel_model.proofs.Elements.{all_first}
 use Rattle.channel_model.proofs.Sound.{Sound, sound_step, sound_start, sound}
 use Rattle.cell_words.proofs.OffersRemoved.{ties_first, ties_withdraw, ties_take, ties_drop, ties_end}
-use Rattle.cell_words.proofs.OffersSpurned.{ties_spurn}
-
--- an offer is held only where its kind lets it wait
-drops_not : (k : Kind) (n : ℕ) → drops k n ≡ true → suspends k ≡ false
-drops_not Rendezvous n e = cc
-drops_not (Buffered k) n e = cc
-drops_not Unlimited n e = cc
-drops_not Conflated n e = refl
-drops_not (DropOldest k) n e = refl
-drops_not (DropLatest k) n e = cc
-drops_not Signal n e = cc
-
--- the same of one that is one too many
-spurns_not : (k : Kind) (n : ℕ) → spurns k n ≡ true → suspends k ≡ false
-spurns_not Rendezvous n e = cc
-spurns_not (Buffered k) n e = cc
-spurns_not Unlimited n e = cc
-spurns_not Conflated n e = cc
-spurns_not (DropOldest k) n e = cc
-spurns_not (DropLatest k) n e = refl
-spurns_not Signal n e = cc
-
-kept_none : (h : Option Party) → is_none h ≡ true → h ≡ None
-kept_none None e = refl
-kept_none (Some p) e = cc
+use Rattle.cell_words.proofs.OffersSpurned.{ties_spurn, none_holder}
+use Rattle.channel_model.proofs.PlacedFull.{drops_not, spurns_not}
 
 close_end : (v : Option ℕ) → is_some v ≡ true → voided_by (close_value v) ≡ end_cell v true
 close_end None e = cc
@@ -56,7 +30,7 @@ open_end x v voided e = ap (λ (t : Bool). end_cell (Some v) t) (sym e)
 
 none_held : (shape : Shape) (s : State) → Sound shape s → (c n : ℕ) → drops (kind_at shape c) n ≡ true → (o : Standing) (os : List Standing)
     → (s.channels c).queue ≡ o ∷ os → o.holder ≡ None
-none_held shape s h c n e o os is = kept_none o.holder (all_first (λ (o : Standing). is_none o.holder) o os
+none_held shape s h c n e o os is = none_holder o.holder (all_first (λ (o : Standing). is_none o.holder) o os
     (subst (λ (l : List Standing). list_all (λ (o : Standing). is_none o.holder) l ≡ true) is
     ((h.channels c).kept (drops_not (kind_at shape c) n e))))
 

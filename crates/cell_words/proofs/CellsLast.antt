@@ -2,7 +2,7 @@
 use Rattle.std.proofs.Common.{◌≡◌, ◌⊎◌, ℕ, ◌+◌, ◌<◌, ◌≤◌, ◌==◌, Bool, true, false, List, ◌++◌, if◌then◌else◌, Option, Some, None, is_some, sym, refl, ap, ◌∙◌, subst, ⊎_elim, inl, inr, arith}
 use Rattle.co_base.specs.declared.names.WaitId.{WaitId}
 use Rattle.channel_model.specs.declared.acts.Act.{Act}
-use Rattle.channel_model.specs.declared.acts.Act.TheVariants.{Hand, Put, Offer, Await, Take, Admit, Drop, Spurn, Close, Void, Drain, WakeClosed, Withdraw, Settle}
+use Rattle.channel_model.specs.declared.acts.Act.TheVariants.{Put, Offer, Await, Take, Drop, Spurn, Close, Void, Drain}
 use Rattle.channel_model.specs.declared.acts.Entry.{Entry}
 use Rattle.channel_model.specs.declared.standing.Resolution.{Resolution}
 use Rattle.channel_model.specs.declared.standing.Resolution.TheVariants as resolved
@@ -46,20 +46,16 @@ used_stays shape P b e c p t n u h taken = go e.who e.act n
         → P y) b.cells d q _ (λ h k. k q h) c p (λ ne h k. h) h taken
 
     go : (who : ℕ) (act : Act) → Needs shape b.state who act → P (mark b.state b.cells who act c p)
-    go who (Hand d q v) n = h
     go who (Put d q v) n = placed d q (places_at shape d) _ n.1
     go who (Offer d q v w k) n = placed d q (places_at shape d) _ n.1
     go who (Await d q w k) n = placed d q (places_at shape d) _ n.1
     go who (Take d q v) n = removed d q
-    go who (Admit d q) n = h
     go who (Drop d q v) n = removed d q
     go who (Spurn d q v) n = removed d q
     go who (Close d v) n = ended d _
     go who (Void d) n = ended d _
     go who (Drain d q v) n = removed d q
-    go who (WakeClosed d q) n = h
-    go who (Withdraw w why) n = h
-    go who (Settle w outcome) n = h
+    go who other n = h
 
 -- a receiver's cell stays
 pub receiver_lasts : (shape : Shape) (c p who : ℕ) (w : WaitId) (k : ℕ) → BoardLasts shape (λ b. b.cells c p ≡ receiver who w k)

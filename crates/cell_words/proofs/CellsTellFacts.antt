@@ -1,9 +1,9 @@
 -- What a legal history's cells say of who stands.
 use Rattle.std.proofs.Common.{◌≡◌, ◌⊎◌, ℕ, suc, ◌+◌, ◌<◌, ◌≤◌, nat_le, eqb, Bool, true, false, true≢false, List, [], ◌∷◌, if◌then◌else◌, Option, Some, None, sym, refl, ap, ◌∙◌, subst, ⊎_elim, inl, inr, arith}
 use Rattle.std.specs.List.{list_all}
-use Rattle.std.proofs.lemmas.Bool.Decides.{nat_tests}
 use mathlib.Core.Logic.{dite}
 use native.Mathlib.Decide.{ℕ_discrete, dec_le}
+use Rattle.std.proofs.lemmas.Bool.{le-leb, leb-true}
 use Rattle.channel_model.specs.declared.acts.Entry.{Entry}
 use Rattle.channel_model.specs.declared.standing.Standing.{Standing}
 use Rattle.channel_model.specs.declared.standing.Receiver.{Receiver}
@@ -36,12 +36,6 @@ used_given b c p t u = dite (dec_le (suc p) (b.state.channels c).next) (λ le. o
     ∙ not_used_end (b.state.channels c).closed (b.state.channels c).voided)))
     (λ ne. absurd (true≢false (sym u ∙ ap is_used (t.unused c p (omega arith))))))
 
-at_least : (n m : ℕ) → n ≤ m → nat_le n m ≡ true
-at_least n m h = grind (arith, nat_tests)
-
-is_least : (n m : ℕ) → nat_le n m ≡ true → n ≤ m
-is_least n m h = grind (arith, nat_tests)
-
 module _ (b : Board) (c : ℕ) (t : Tied b) where
   abbrev ch : Channel
   ch = b.state.channels c
@@ -56,7 +50,7 @@ module _ (b : Board) (c : ℕ) (t : Tied b) where
 
       go : (o : Option Receiver) → awaiting b.state.waits q (b.cells c q) ≡ o → awaiting b.state.waits q (b.cells c q) ≡ None
       go None e = e
-      go (Some r) e = let least = is_least n r.place (gather_all (λ (r : Receiver). nat_le n r.place) _ (b.state.channels c).next all q r
+      go (Some r) e = let least = leb-true n r.place (gather_all (λ (r : Receiver). nat_le n r.place) _ (b.state.channels c).next all q r
           (let g = h.given in omega arith) e) in
           let at : r.place ≡ q = (awaiting_is b.state.waits q (b.cells c q) r e).place in absurd (omega arith)
 
@@ -70,7 +64,7 @@ module _ (b : Board) (c : ℕ) (t : Tied b) where
 
       go : (o : Option Standing) → standing b.state.waits q (b.cells c q) ≡ o → standing b.state.waits q (b.cells c q) ≡ None
       go None e = e
-      go (Some o) e = let least = is_least m o.place (gather_all (λ (o : Standing). nat_le m o.place) _ (b.state.channels c).next all q o
+      go (Some o) e = let least = leb-true m o.place (gather_all (λ (o : Standing). nat_le m o.place) _ (b.state.channels c).next all q o
           (let g = h.given_offers in omega arith) e) in
           let at : o.place ≡ q = offer_place b.state.waits q (b.cells c q) o (standing_is b.state.waits q (b.cells c q) o e)
           in absurd (omega arith)
@@ -83,7 +77,7 @@ module _ (b : Board) (c : ℕ) (t : Tied b) where
     given_offers = h.given_offers;
     receivers = subst (λ (l : List Receiver). list_all (λ (r : Receiver). nat_le (n + 1) r.place) l ≡ true) (sym (t.lines c))
         (all_gather (λ (r : Receiver). nat_le (n + 1) r.place) _ (b.state.channels c).next
-        (λ q r lt e. at_least (n + 1) r.place (beyond q r e)));
+        (λ q r lt e. le-leb (n + 1) r.place (beyond q r e)));
     offers = h.offers;
   }
     where
@@ -101,7 +95,7 @@ module _ (b : Board) (c : ℕ) (t : Tied b) where
     receivers = h.receivers;
     offers = subst (λ (l : List Standing). list_all (λ (o : Standing). nat_le (m + 1) o.place) l ≡ true) (sym (t.queues c))
         (all_gather (λ (o : Standing). nat_le (m + 1) o.place) _ (b.state.channels c).next
-        (λ q o lt e. at_least (m + 1) o.place (beyond q o e)));
+        (λ q o lt e. le-leb (m + 1) o.place (beyond q o e)));
   }
     where
       beyond : (q : ℕ) (o : Standing) → standing b.state.waits q (b.cells c q) ≡ Some o → m + 1 ≤ o.place

@@ -16,7 +16,7 @@ use Rattle.channel_model.proofs.Histories.{replay_from-append, LegalFrom-parts}
 use Rattle.channel_model.proofs.Waits.{same_wait-eq, same_wait-refl}
 use Rattle.channel_model.proofs.Placed.{Placed, placed_after}
 use Rattle.channel_model.proofs.Firsts.{may_begin}
-use Rattle.channel_model.proofs.Joining.{join_step}
+use Rattle.channel_model.proofs.Joining.{join_step, not_absent}
 use Rattle.channel_model.proofs.GoneForGood.{below_lasts}
 use Rattle.channel_model.proofs.Sound.{sound}
 use Rattle.word_rules.specs.declared.cell_word.CellState.{CellState}
@@ -101,10 +101,6 @@ main_fits shape who k c p (Some w) log lt lc lp few h = let n = number_within sh
       place = h.0.1;
       few = omega arith;
     }
-
-not_absent : (who k c : ℕ) (y : Option Wait) → y ≡ None → JoinsWait who k c y → ⊥
-not_absent who k c None e h = h
-not_absent who k c (Some x) e h = cc
 
 -- no wait began at a cell that is free
 pub elsewhere : (shape : Shape) (who k c p : ℕ) (main : Option WaitId) (log : List Entry) → Legal shape log

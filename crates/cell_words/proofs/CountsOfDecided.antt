@@ -3,6 +3,7 @@ use Rattle.std.proofs.Common.{◌≡◌, ℕ, zero, suc, ◌+◌, ◌-◌, ◌<�
 use Rattle.std.proofs.lemmas.Bool.{eqb-true}
 use mathlib.Core.Logic.{dite}
 use native.Mathlib.Decide.{ℕ_discrete}
+use Rattle.std.proofs.lemmas.Option.{same_Some}
 use Rattle.co_base.specs.declared.names.WaitId.{WaitId}
 use Rattle.channel_model.specs.declared.acts.Entry.{Entry}
 use Rattle.channel_model.specs.declared.acts.Settled.{Settled}
@@ -26,7 +27,7 @@ use Rattle.cell_words.proofs.CellsTellFacts.{now, tied_now, used_given, none_off
 use Rattle.cell_words.proofs.CountsOfOffers.{count_some, count_none, count_next, count_up}
 use Rattle.cell_words.proofs.KeptBehind.{Keeps, stands_kept}
 use Rattle.cell_words.proofs.ElementsWithRoom.{why_emptied}
-use Rattle.cell_words.proofs.PlacesDecided.{one_true, one_false, Split, split, joined, some_number, offer_fate, were_decided_more}
+use Rattle.cell_words.proofs.PlacesDecided.{one_true, one_false, Split, split, joined, offer_fate, were_decided_more}
 use Rattle.cell_words.proofs.WalksToAdmit.{Walked, place_kept, walked_none, walked_kept, walked_gone, within_places}
 
 pub decided_seen : (shape : Shape) (c from to count : ℕ) (v w : Seen) → Sees v w → Legal shape w.seen
@@ -38,13 +39,9 @@ decided_seen shape c from to count v w s l h = subst (λ (es : List Entry). Were
 -- ---- what the words tell
 
 told_how : (k : ℕ) (how : Resolution) → kept_told (how_word how) k ≡ Some (kept_after k how)
-told_how k (resolved.Handed j v) = refl
-told_how k (resolved.Taken j) = refl
-told_how k (resolved.Admitted j) = refl
-told_how k (resolved.Closed j v) = refl
 told_how k (resolved.Withdrawn Cancelled) = refl
 told_how k (resolved.Withdrawn Revoked) = refl
-told_how k resolved.Voided = refl
+told_how k other = refl
 
 told_parts : (k : ℕ) (how : Option Resolution) (outcome : Option Settled) → kept_told (parts_word how outcome) k ≡ kept_by k how
 told_parts k None outcome = refl
@@ -84,15 +81,8 @@ fate_put shape c p log word never is h b e =
 -- ---- what is decided of a place tells whether an offer stands there
 
 kept_admits : (k : ℕ) (how : Resolution) → kept_after k how ≡ true → how ≡ resolved.Admitted k
-kept_admits k (resolved.Handed j v) e = absurd (true≢false (sym e))
-kept_admits k (resolved.Taken j) e = absurd (true≢false (sym e))
 kept_admits k (resolved.Admitted j) e = ap (λ (n : ℕ). resolved.Admitted n) (eqb-true j k e)
-kept_admits k (resolved.Closed j v) e = absurd (true≢false (sym e))
-kept_admits k (resolved.Withdrawn why) e = absurd (true≢false (sym e))
-kept_admits k resolved.Voided e = absurd (true≢false (sym e))
-
-some_true : (a b : Bool) → Some a ≡ Some b → a ≡ b
-some_true a b e = cc
+kept_admits k other e = absurd (true≢false (sym e))
 
 kept_wait : (k : ℕ) (y : Option Wait) → kept_of k y ≡ Some true → IsResolvedAs (resolved.Admitted k) y
 kept_wait k None e = cc
@@ -101,7 +91,7 @@ kept_wait k (Some x) e = go x.resolved refl e
     go : (o : Option Resolution) → x.resolved ≡ o → kept_by k o ≡ Some true → x.resolved ≡ Some (resolved.Admitted k)
     go None is f = cc
     go (Some how) is f = is
-        ∙ ap (λ (z : Resolution). Some z) (kept_admits k how (some_true (kept_after k how) true f))
+        ∙ ap (λ (z : Resolution). Some z) (kept_admits k how (same_Some (kept_after k how) true f))
 
 kept_cell : (over : Bool) (waits : WaitId → Option Wait) (y : Cell) → kept_in over waits y ≡ Some true → WasKept waits y
 kept_cell over waits free e = cc
@@ -113,16 +103,12 @@ kept_cell over waits (closed_by v) e = cc
 kept_cell over waits (voided_by v) e = cc
 
 gone_after : (p v k : ℕ) (how : Resolution) → kept_after k how ≡ false → offer_after p v k how ≡ None
-gone_after p v k (resolved.Handed j x) e = refl
-gone_after p v k (resolved.Taken j) e = refl
 gone_after p v k (resolved.Admitted j) e = ap (λ (b : Bool). if b then Some (record { place = p; value = v; holder = None }) else None) e
-gone_after p v k (resolved.Closed j x) e = refl
-gone_after p v k (resolved.Withdrawn why) e = refl
-gone_after p v k resolved.Voided e = refl
+gone_after p v k other e = refl
 
 gone_by : (p v k : ℕ) (w : WaitId) (o : Option Resolution) → kept_by k o ≡ Some false → offer_by p v w k o ≡ None
 gone_by p v k w None e = cc
-gone_by p v k w (Some how) e = gone_after p v k how (some_true (kept_after k how) false e)
+gone_by p v k w (Some how) e = gone_after p v k how (same_Some (kept_after k how) false e)
 
 gone_of : (p v k : ℕ) (w : WaitId) (y : Option Wait) → kept_of k y ≡ Some false → offer_of p v w k y ≡ None
 gone_of p v k w None e = refl
@@ -164,7 +150,7 @@ module _ (f : ℕ → Option Bool) (from : ℕ) (b : Bool) (is : f from ≡ Some
       let s = split (f (from + 0)) (Some 0) count h in
       let at : from + 0 ≡ from = omega arith in
       let same = ap one_if (same_bool (f (from + 0)) (f from) s.kept b (ap f at) s.last is) in
-      let none = some_number 0 s.rest s.before in
+      let none = same_Some 0 s.rest s.before in
       let sum = s.sum in
       (ap (λ (z : ℕ). Some z) (omega (arith, same, none, sum)), omega (arith, same, none, sum))
   kept_rest (suc n) count h =
@@ -204,7 +190,7 @@ one_most true = omega arith
 one_most false = omega arith
 
 pub kept_most : (f : ℕ → Option Bool) (from n count : ℕ) → kept_among f from n ≡ Some count → count ≤ n
-kept_most f from zero count h = let none = some_number 0 count h in omega (arith, none)
+kept_most f from zero count h = let none = same_Some 0 count h in omega (arith, none)
 kept_most f from (suc n) count h =
     let s = split (f (from + n)) (kept_among f from n) count h in
     let i = kept_most f from n s.rest s.before in
@@ -242,14 +228,14 @@ module _ (shape : Shape) (c low : ℕ) (log : List Entry) (l : Legal shape log) 
       (λ ne. ⊎_elim
       (λ (g : stands log c low ≡ None). absurd (true≢false (sym st ∙ ap is_some g)))
       (λ (g : was_over shape log c p ≡ true). absurd
-      (true≢false (sym (some_true (not (was_over shape log c p)) true h) ∙ ap not g)))
+      (true≢false (sym (same_Some (not (was_over shape log c p)) true h) ∙ ap not g)))
       (why_emptied shape c low p (omega arith) log v l e))
   kept_stands p le st (closed_by v) e h = cc
   kept_stands p le st (voided_by v) e h = cc
 
   lower_among : is_some (stands log c low) ≡ true → (n count : ℕ)
       → kept_among (fate shape log c) low n ≡ Some count → count ≤ length (gather (stands log c) (low + n))
-  lower_among st zero count h = let e = some_number 0 count h in omega arith
+  lower_among st zero count h = let e = same_Some 0 count h in omega arith
   lower_among st (suc n) count h =
       let s = split (fate shape log c (low + n)) (kept_among (fate shape log c) low n) count h in
       let i = lower_among st n s.rest s.before in
@@ -324,7 +310,7 @@ module _ (shape : Shape) (c low : ℕ) (log : List Entry) (l : Legal shape log) 
   pub upper_behind : (from base : ℕ) → length (gather (stands log c) from) ≤ base → (n count : ℕ)
       → kept_among (fate shape log c) from n ≡ Some count → length (gather (stands log c) (from + n)) ≤ base + count
   upper_behind from base below zero count h =
-      let none = some_number 0 count h in
+      let none = same_Some 0 count h in
       let at : from ≡ from + 0 = omega arith in
       subst (λ (z : ℕ). length (gather (stands log c) z) ≤ base + count) at (omega (arith, below, none))
   upper_behind from base below (suc n) count h =
@@ -355,7 +341,7 @@ module _ (shape : Shape) (c low : ℕ) (log : List Entry) (l : Legal shape log) 
       → (n count : ℕ) → from + n ≤ end
       → kept_among (fate shape log c) from n ≡ Some count → base + count ≤ length (gather early (from + n))
   lower_behind st early from end base le stood below zero count within h =
-      let none = some_number 0 count h in
+      let none = same_Some 0 count h in
       let at : from ≡ from + 0 = omega arith in
       subst (λ (z : ℕ). base + count ≤ length (gather early z)) at (omega (arith, below, none))
   lower_behind st early from end base le stood below (suc n) count within h =
@@ -384,7 +370,7 @@ module _ (shape : Shape) (c low : ℕ) (log : List Entry) (l : Legal shape log) 
       → kept_among (fate shape log c) low n ≡ Some count → Walked c low (low + n) count log
   walked_among never below zero count h =
       let at : low ≡ low + 0 = omega arith in
-      let none = some_number 0 count h in
+      let none = same_Some 0 count h in
       subst (λ (z : ℕ × ℕ). Walked c low z.0 z.1 log) (λ i. (at i, none i)) (walked_none shape c low log l below)
   walked_among never below (suc n) count h =
       let s = split (fate shape log c (low + n)) (kept_among (fate shape log c) low n) count h in

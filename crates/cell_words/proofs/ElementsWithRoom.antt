@@ -1,17 +1,12 @@
 -- An element that was put while fewer stood than the channel keeps: nobody spurns it, so it stands while an offer stands before it.
-use Rattle.std.proofs.Common.{◌≡◌, ◌⊎◌, ℕ, ◌<◌, ◌≤◌, ◌==◌, nat_le, Bool, true, false, true≢false, not, ◌&&◌, List, [], ◌∷◌, ◌++◌, length, if◌then◌else◌, Option, Some, None, sym, refl, ap, ◌∙◌, subst, ⊎_elim, inl, inr, arith, eq-eqb, ne_eqb}
-use Rattle.std.proofs.lemmas.Bool.{eqb-true}
+use Rattle.std.proofs.Common.{◌≡◌, ◌⊎◌, ℕ, ◌<◌, ◌≤◌, ◌==◌, nat_le, Bool, true, false, true≢false, not, ◌&&◌, List, [], ◌∷◌, ◌++◌, length, if◌then◌else◌, Some, None, sym, refl, ap, ◌∙◌, subst, ⊎_elim, inl, inr, arith, eq-eqb}
 use Rattle.std.proofs.lemmas.Bool.Decides.{nat_tests}
 use Rattle.channel_model.specs.declared.acts.Act.{Act}
 use Rattle.channel_model.specs.declared.acts.Act.TheVariants.{Hand, Put, Offer, Await, Take, Admit, Drop, Spurn, Close, Void, Drain, WakeClosed, Withdraw, Settle}
 use Rattle.channel_model.specs.declared.acts.Entry.{Entry}
-use Rattle.channel_model.specs.declared.standing.Party.{Party}
-use Rattle.channel_model.specs.declared.standing.Receiver.{Receiver}
-use Rattle.channel_model.specs.declared.standing.Resolution.{Resolution}
-use Rattle.channel_model.specs.declared.standing.Standing.{Standing}
 use Rattle.channel_model.specs.Channels.{Shape, State, start, places_at, kind_at, spurns}
-use Rattle.channel_model.specs.Effects.{after, resolve_first, resolve_holder, resolve_offer, remove_first, with_queue, put_stood, close_value}
-use Rattle.channel_model.specs.Needs.{Needs, HasPlace, IsFirstOffer}
+use Rattle.channel_model.specs.Effects.{after, with_queue, close_value}
+use Rattle.channel_model.specs.Needs.{Needs, IsFirstOffer}
 use Rattle.channel_model.specs.Histories.{replay, replay_from, Legal, LegalFrom}
 use Rattle.channel_model.specs.Laws.{NoOffer}
 use Rattle.channel_model.proofs.EveryAct.{after_keeps}
@@ -30,6 +25,7 @@ use Rattle.cell_words.proofs.CountsOfOffers.{cell_by_none, gone_more, count_less
 use Rattle.cell_words.proofs.EntriesOnOneWord.{cells_push}
 use Rattle.cell_words.proofs.ExchangesTell.{before_legal}
 use Rattle.cell_words.proofs.WalksToAdmit.{none_before}
+use Rattle.channel_model.proofs.Stood.{other_stays, first_stays, holder_stays, offer_stays, removed_stays}
 
 -- an element was put in this cell; it may have been removed since
 abbrev holds_put : Cell → Bool
@@ -42,31 +38,6 @@ holds_put (closed_by v) = false
 holds_put (voided_by v) = false
 
 -- ---- how many stood stays, once a place was given out
-
-other_stays : (places c q m p d : ℕ) (s : State) → HasPlace places q (s.channels c) → p < (s.channels d).next
-    → put_stood c q m s.stood d p ≡ s.stood d p
-other_stays places c q m p d s h lt = by_test (c == d) refl
-  where
-    by_test : (t : Bool) → (c == d) ≡ t → (if t && (q == p) then m else s.stood d p) ≡ s.stood d p
-    by_test true e = let is : (s.channels c).next ≡ (s.channels d).next = ap (λ (n : ℕ). (s.channels n).next) (eqb-true c d e) in
-        let f = h.first in ap (λ (b : Bool). if b then m else s.stood d p) (ne_eqb q p (λ k. omega (arith, k, f, is, lt)))
-    by_test false e = refl
-
-first_stays : (rs : List Receiver) (how : ℕ → Resolution) (s : State) (d p : ℕ) → (resolve_first rs how s).stood d p ≡ s.stood d p
-first_stays [] how s d p = refl
-first_stays (r ∷ rs) how s d p = refl
-
-holder_stays : (x : Option Party) (how : ℕ → Resolution) (s : State) (d p : ℕ) → (resolve_holder x how s).stood d p ≡ s.stood d p
-holder_stays None how s d p = refl
-holder_stays (Some x) how s d p = refl
-
-offer_stays : (c : ℕ) (q : List Standing) (how : ℕ → Resolution) (s : State) (d p : ℕ) → (resolve_offer c q how s).stood d p ≡ s.stood d p
-offer_stays c [] how s d p = refl
-offer_stays c (o ∷ os) how s d p = holder_stays o.holder how (with_queue c os s) d p
-
-removed_stays : (c : ℕ) (q : List Standing) (s : State) (d p : ℕ) → (remove_first c q s).stood d p ≡ s.stood d p
-removed_stays c [] s d p = refl
-removed_stays c (o ∷ os) s d p = refl
 
 -- ---- an element that was put with room goes only when none stands before it
 

@@ -91,16 +91,12 @@ module _ (shape : Shape) (log : List Entry) (e : Entry) (l : Legal shape (log ++
 -- ---- a word 0 of a wait that began says that it is open
 
 pub how_some : (how : Resolution) → 0 ≡ how_code how → ⊥
-how_some (resolved.Handed k v) e = omega arith
-how_some (resolved.Taken k) e = omega arith
-how_some (resolved.Admitted k) e = omega arith
-how_some (resolved.Closed k v) e = omega arith
 how_some (resolved.Withdrawn why) e = by_why why e
   where
     by_why : (why : Why) → 0 ≡ how_code (resolved.Withdrawn why) → ⊥
     by_why Why.Cancelled e = omega arith
     by_why Why.Revoked e = omega arith
-how_some resolved.Voided e = omega arith
+how_some other e = omega arith
 
 pub parts_open : (how : Option Resolution) (outcome : Option Settled) → 0 ≡ packed_wait (parts_word how outcome) → how ≡ None
 parts_open None outcome e = refl
@@ -247,10 +243,9 @@ module _ (shape : Shape) (log : List Entry) (who c p value owner k : ℕ) (w : W
       → Fits shape (log ++ record { who = who; act = removal_act by c p value } ∷ []) j n)
   removed_steps removal.Take may = resolve_steps shape log who w.channel w.place (Take c p value) (resolved.Taken k) take_wait.wait l wc wp
       (lc, first_offer) (removed_waits resolved.Taken) removed_marks take_wait.was take_wait.still_open lk
-  removed_steps removal.Drop may = absurd may
-  removed_steps removal.Spurn may = absurd may
   removed_steps removal.Drain may = resolve_steps shape log who w.channel w.place (Drain c p value) resolved.Voided take_wait.wait l wc wp
       (lc, may, first_offer) (removed_waits (λ k. resolved.Voided)) removed_marks take_wait.was take_wait.still_open tt
+  removed_steps other may = absurd may
 
 -- ---- Withdraw
 

@@ -102,17 +102,14 @@ gone_receiver p k w (Some x) h = by_how x.resolved h
 
 -- whether an offer stands whose wait was resolved so
 after_stands : (p v k : ℕ) (how : Resolution) → is_some (offer_after p v k how) ≡ lets_stand (how_word how) k
-after_stands p v k (resolved.Handed j y) = refl
-after_stands p v k (resolved.Taken j) = refl
 after_stands p v k (resolved.Admitted j) = by_test (j == k)
   where
     by_test : (b : Bool) → is_some {T = Standing} (if b then Some (record { place = p; value = v; holder = None }) else None) ≡ b
     by_test true = refl
     by_test false = refl
-after_stands p v k (resolved.Closed j y) = refl
 after_stands p v k (resolved.Withdrawn Cancelled) = refl
 after_stands p v k (resolved.Withdrawn Revoked) = refl
-after_stands p v k resolved.Voided = refl
+after_stands p v k other = refl
 
 -- how a wait ended says nothing of that
 ended_stands : (k : ℕ) (how : Resolution) (outcome : Option Settled)
@@ -137,13 +134,10 @@ offer_gone p v k w (Some x) e = by_how x.resolved e
     by_how (Some how) e = none_of (offer_after p v k how) (after_stands p v k how ∙ sym (ended_stands k how x.settled) ∙ e)
 
 how_admitted : (k : ℕ) (how : Resolution) → lets_stand (how_word how) k ≡ true → how ≡ resolved.Admitted k
-how_admitted k (resolved.Handed j y) e = cc
-how_admitted k (resolved.Taken j) e = cc
 how_admitted k (resolved.Admitted j) e = ap resolved.Admitted (eqb-true j k e)
-how_admitted k (resolved.Closed j y) e = cc
 how_admitted k (resolved.Withdrawn Cancelled) e = cc
 how_admitted k (resolved.Withdrawn Revoked) e = cc
-how_admitted k resolved.Voided e = cc
+how_admitted k other e = cc
 
 -- a resolved wait that lets its offer stand was admitted at that clause
 pub admitted_found : (k : ℕ) (word : WaitWord) (y : Option Wait) → word ≡ word_of_wait y → (packed_wait word ≡ 0 → ⊥)

@@ -1,7 +1,7 @@
 -- A cell has an offer that a sender began to wait with only where the kind of its channel lets a send wait.
 use Rattle.std.proofs.Common.{◌≡◌, ℕ, Bool, true, false, true≢false, List, [], Option, Some, None, sym, refl, ap, ◌∙◌}
 use Rattle.channel_model.specs.declared.acts.Act.{Act}
-use Rattle.channel_model.specs.declared.acts.Act.TheVariants.{Hand, Put, Offer, Await, Take, Admit, Drop, Spurn, Close, Void, Drain, WakeClosed, Withdraw, Settle}
+use Rattle.channel_model.specs.declared.acts.Act.TheVariants.{Put, Offer, Await, Take, Drop, Spurn, Close, Void, Drain}
 use Rattle.channel_model.specs.declared.acts.Entry.{Entry}
 use Rattle.channel_model.specs.declared.standing.Party.{Party}
 use Rattle.channel_model.specs.declared.standing.Standing.{Standing}
@@ -41,21 +41,17 @@ module _ (shape : Shape) (c p : ℕ) (kind : suspends (kind_at shape c) ≡ fals
 
   never_step : (b : Board) (who : ℕ) (act : Act) → Needs shape b.state who act → is_offer (b.cells c p) ≡ false
       → is_offer (mark b.state b.cells who act c p) ≡ false
-  never_step b who (Hand d q v) n h = h
   never_step b who (Put d q v) n h = placed b d q (buffered v) (λ e. refl) h
   never_step b who (Offer d q v w k) n h = placed b d q (offer v who w k)
       (λ e. absurd (true≢false (sym n.3 ∙ ap (λ (x : ℕ). suspends (kind_at shape x)) e ∙ kind))) h
   never_step b who (Await d q w k) n h = placed b d q (receiver who w k) (λ e. refl) h
   never_step b who (Take d q v) n h = removed b d q h
-  never_step b who (Admit d q) n h = h
   never_step b who (Drop d q v) n h = removed b d q h
   never_step b who (Spurn d q v) n h = removed b d q h
   never_step b who (Close d v) n h = placed b d (b.state.channels d).next (closed_by v) (λ e. refl) h
   never_step b who (Void d) n h = placed b d (b.state.channels d).next _ (λ e. refl) h
   never_step b who (Drain d q v) n h = removed b d q h
-  never_step b who (WakeClosed d q) n h = h
-  never_step b who (Withdraw w why) n h = h
-  never_step b who (Settle w outcome) n h = h
+  never_step b who other n h = h
 
   never_lasts : BoardLasts shape (λ b. is_offer (b.cells c p) ≡ false)
   never_lasts = record { step = λ b e s t n h. never_step b e.who e.act n h }

@@ -3,7 +3,7 @@
 use Rattle.std.proofs.Common.{◌≡◌, ◌⊎◌, ℕ, ◌+◌, ◌-◌, ◌<◌, ◌≤◌, ◌==◌, Bool, true, false, true≢false, List, [], ◌∷◌, ◌++◌, length, if◌then◌else◌, Option, Some, None, is_some, is_none, sym, refl, ap, ◌∙◌, subst, ⊎_elim, inl, inr, arith}
 use Rattle.std.specs.List.{list_all}
 use Rattle.std.proofs.lemmas.Bool.Decides.{nat_tests}
-use Rattle.std.proofs.lemmas.Bool.{eqb-true}
+use Rattle.std.proofs.lemmas.Bool.{eqb-true, eq-eqb}
 use mathlib.Core.Logic.{dite}
 use native.Mathlib.Decide.{ℕ_discrete, dec_le}
 use Rattle.co_base.specs.declared.names.WaitId.{WaitId}
@@ -11,7 +11,7 @@ use Rattle.channel_model.specs.declared.acts.Act.{Act}
 use Rattle.channel_model.specs.declared.acts.Act.TheVariants.{Hand, Put, Offer, Await, Take, Admit, Drop, Spurn, Close, Void, Drain, WakeClosed, Withdraw, Settle}
 use Rattle.channel_model.specs.declared.acts.Entry.{Entry}
 use Rattle.channel_model.specs.declared.acts.Kind.{Kind}
-use Rattle.channel_model.specs.declared.acts.Kind.TheVariants.{Rendezvous, Buffered, Unlimited, Conflated, DropOldest, DropLatest, Signal}
+use Rattle.channel_model.specs.declared.acts.Kind.TheVariants.{Conflated, DropOldest, DropLatest}
 use Rattle.channel_model.specs.declared.standing.Standing.{Standing}
 use Rattle.channel_model.specs.declared.standing.Resolution.{Resolution}
 use Rattle.channel_model.specs.declared.standing.Resolution.TheVariants as resolved
@@ -34,6 +34,7 @@ use Rattle.cell_words.proofs.OffersRemoved.{offer_place, first_in_queue}
 use Rattle.cell_words.proofs.CellsGiveLists.{BoardLasts, board_lasts, board_state}
 use Rattle.cell_words.proofs.CellsTellFacts.{now, tied_now, used_given, none_offers}
 use Rattle.cell_words.proofs.CountsOfOffers.{cell_by_none, gone_more, count_less, count_up}
+use Rattle.channel_model.proofs.PlacedFull.{drops_not}
 
 -- the cell has an element without a waiting sender
 abbrev pub Keeps : (WaitId → Option Wait) → Cell → Type 0
@@ -195,13 +196,11 @@ kept_cell waits p (emptied v) o e n = cc
 kept_cell waits p (closed_by v) o e n = cc
 kept_cell waits p (voided_by v) o e n = cc
 
-same_clause : (k : ℕ) → (k == k) ≡ true
-same_clause k = grind (arith, nat_tests)
-
 kept_stays : (p v k : ℕ) (w : WaitId) (y : Option Wait) → IsResolvedAs (resolved.Admitted k) y → is_some (offer_of p v w k y) ≡ true
 kept_stays p v k w None h = absurd h
 kept_stays p v k w (Some x) h = ap (λ (z : Option Resolution). is_some (offer_by p v w k z)) h
-    ∙ ap (λ (b : Bool). is_some {T = Standing} (if b then Some (record { place = p; value = v; holder = None }) else None)) (same_clause k)
+    ∙ ap (λ (b : Bool). is_some {T = Standing} (if b then Some (record { place = p; value = v; holder = None }) else None))
+    (eq-eqb k k refl)
 
 pub stands_kept : (waits : WaitId → Option Wait) (p : ℕ) (y : Cell) → Keeps waits y → is_some (standing waits p y) ≡ true
 stands_kept waits p free h = absurd h
@@ -258,41 +257,18 @@ module _ (shape : Shape) (c p : ℕ) (xs ys : List Entry) (lx : Legal shape xs) 
       omega arith
 
 drops_more : (k : Kind) (n m : ℕ) → n ≤ m → drops k n ≡ true → drops k m ≡ true
-drops_more Rendezvous n m le e = e
-drops_more (Buffered k) n m le e = e
-drops_more Unlimited n m le e = e
 drops_more Conflated n m le e = grind (arith, nat_tests)
 drops_more (DropOldest k) n m le e = grind (arith, nat_tests)
-drops_more (DropLatest k) n m le e = e
-drops_more Signal n m le e = e
-
-drops_holds : (k : Kind) (n : ℕ) → drops k n ≡ true → suspends k ≡ false
-drops_holds Rendezvous n e = cc
-drops_holds (Buffered k) n e = cc
-drops_holds Unlimited n e = refl
-drops_holds Conflated n e = refl
-drops_holds (DropOldest k) n e = refl
-drops_holds (DropLatest k) n e = cc
-drops_holds Signal n e = refl
+drops_more other n m le e = e
 
 pub drops_keeps : (k : Kind) (n : ℕ) → drops k n ≡ true → (m : ℕ) → spurns k m ≡ false
-drops_keeps Rendezvous n e m = refl
-drops_keeps (Buffered k) n e m = refl
-drops_keeps Unlimited n e m = refl
-drops_keeps Conflated n e m = refl
-drops_keeps (DropOldest k) n e m = refl
 drops_keeps (DropLatest k) n e m = cc
-drops_keeps Signal n e m = refl
+drops_keeps other n e m = refl
 
 -- a kind on which a send may wait keeps its latest
 pub waits_keeps : (k : Kind) → suspends k ≡ true → (n : ℕ) → spurns k n ≡ false
-waits_keeps Rendezvous e n = refl
-waits_keeps (Buffered k) e n = refl
-waits_keeps Unlimited e n = refl
-waits_keeps Conflated e n = refl
-waits_keeps (DropOldest k) e n = refl
 waits_keeps (DropLatest k) e n = cc
-waits_keeps Signal e n = refl
+waits_keeps other e n = refl
 
 -- a queue that is too long stays so while its first element stands
 pub over_later : (shape : Shape) (c p : ℕ) (xs ys : List Entry) → Legal shape xs → Legal shape (xs ++ ys) → p < (at_channel xs c).next
@@ -302,6 +278,6 @@ over_later shape c p xs ys lx l lt low over stays = ⊎_elim
     (λ (gone : stands xs c p ≡ None). absurd (true≢false (sym stays ∙ ap is_some (gone_more shape c p xs ys lx l lt gone))))
     (λ (long : drops (kind_at shape c) (length (at_channel xs c).queue) ≡ true). drops_more (kind_at shape c)
     (length (at_channel xs c).queue) (length (at_channel (xs ++ ys) c).queue)
-    (no_shorter shape c p xs ys lx l (drops_holds (kind_at shape c) (length (at_channel xs c).queue) long)
+    (no_shorter shape c p xs ys lx l (drops_not (kind_at shape c) (length (at_channel xs c).queue) long)
     (drops_keeps (kind_at shape c) (length (at_channel xs c).queue) long) low stays) long)
     over

@@ -101,20 +101,12 @@ not_mine w r = not (same_wait w r.party.wait)
 
 -- a resolution other than an admittance
 abbrev pub Final : Resolution → Type 0
-Final (resolved.Handed j x) = Unit {0}
-Final (resolved.Taken j) = Unit {0}
 Final (resolved.Admitted j) = ⊥
-Final (resolved.Closed j x) = Unit {0}
-Final (resolved.Withdrawn why) = Unit {0}
-Final resolved.Voided = Unit {0}
+Final other = Unit {0}
 
 final_none : (p v k : ℕ) (how : Resolution) → Final how → offer_after p v k how ≡ None
-final_none p v k (resolved.Handed j x) h = refl
-final_none p v k (resolved.Taken j) h = refl
 final_none p v k (resolved.Admitted j) h = absurd h
-final_none p v k (resolved.Closed j x) h = refl
-final_none p v k (resolved.Withdrawn why) h = refl
-final_none p v k resolved.Voided h = refl
+final_none p v k other h = refl
 
 open_gone : (w u : WaitId) (p v k : ℕ) (y : Option Wait) (x : Wait) → y ≡ Some x → x.resolved ≡ None → same_wait w u ≡ true
     → keep (not_held w) (offer_of p v u k y) ≡ None
@@ -124,17 +116,13 @@ open_gone w u p v k y x was still_open e =
     ∙ ap (λ (b : Bool). if not b then Some (record { place = p; value = v; holder = Some (record { wait = u; clause = k }) }) else None) e
 
 kept_after : (w : WaitId) (p v k : ℕ) (how : Resolution) → keep (not_held w) (offer_after p v k how) ≡ offer_after p v k how
-kept_after w p v k (resolved.Handed j x) = refl
-kept_after w p v k (resolved.Taken j) = refl
 kept_after w p v k (resolved.Admitted j) = go (j == k)
   where
     go : (b : Bool) → keep (not_held w) (if b then Some (record { place = p; value = v; holder = None }) else None) ≡
         (if b then Some (record { place = p; value = v; holder = None }) else None)
     go true = refl
     go false = refl
-kept_after w p v k (resolved.Closed j x) = refl
-kept_after w p v k (resolved.Withdrawn why) = refl
-kept_after w p v k resolved.Voided = refl
+kept_after w p v k other = refl
 
 kept_by : (w u : WaitId) (p v k : ℕ) (y : Option Resolution) → same_wait w u ≡ false
     → keep (not_held w) (offer_by p v u k y) ≡ offer_by p v u k y
@@ -202,12 +190,8 @@ named_resolved who k how (Some x) h = h
 
 own_resolved : (how : Resolution) → Final how → (y : Option Wait) → IsAtOwnClause y → IsAtOwnClause (resolved_wait how y)
 own_resolved how fin None h = h
-own_resolved (resolved.Handed j v) fin (Some x) h = tt
-own_resolved (resolved.Taken j) fin (Some x) h = tt
 own_resolved (resolved.Admitted j) fin (Some x) h = absurd fin
-own_resolved (resolved.Closed j v) fin (Some x) h = tt
-own_resolved (resolved.Withdrawn why) fin (Some x) h = tt
-own_resolved resolved.Voided fin (Some x) h = tt
+own_resolved other fin (Some x) h = tt
 
 -- what a change of waits leaves of the names in cells
 pub cell_named : (waits waits' : WaitId → Option Wait) → ((who k : ℕ) (u : WaitId) → IsNamed who k (waits u) → IsNamed who k (waits' u))
@@ -291,12 +275,8 @@ standing_is waits p (offer v who u k) o e = go (waits u) refl e
     here false e = cc
 
     by_how : (how : Resolution) → offer_after p v k how ≡ Some o → IsOffer waits p (offer v who u k) o
-    by_how (resolved.Handed j x) e = cc
-    by_how (resolved.Taken j) e = cc
     by_how (resolved.Admitted j) e = here (j == k) e
-    by_how (resolved.Closed j x) e = cc
-    by_how (resolved.Withdrawn why) e = cc
-    by_how resolved.Voided e = cc
+    by_how other e = cc
 
     by_state : (x : Wait) (how : Option Resolution) → waits u ≡ Some x → x.resolved ≡ how → offer_by p v u k how ≡ Some o
         → IsOffer waits p (offer v who u k) o

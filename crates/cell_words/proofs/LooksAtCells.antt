@@ -396,13 +396,9 @@ own_seen shape who u v w tag s l h = subst (λ (es : List Entry). IsOwnWait who 
 -- ---- how far a wait is
 
 how_state : (how : Resolution) → state_found (how_word how) ≡ state_of_parts (Some how) None
-how_state (resolved.Handed k v) = refl
-how_state (resolved.Taken k) = refl
-how_state (resolved.Admitted k) = refl
-how_state (resolved.Closed k v) = refl
 how_state (resolved.Withdrawn Cancelled) = refl
 how_state (resolved.Withdrawn Revoked) = refl
-how_state resolved.Voided = refl
+how_state other = refl
 
 parts_state : (how : Option Resolution) (outcome : Option Settled) → (how ≡ None → outcome ≡ None)
     → state_of_parts how outcome ≡ state_found (parts_word how outcome)

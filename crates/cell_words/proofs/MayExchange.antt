@@ -1,13 +1,14 @@
 -- What a step may do, whatever others do meanwhile.
-use Rattle.std.proofs.Common.{◌≡◌, ◌⊎◌, ℕ, ◌<◌, ◌≤◌, Bool, true, false, List, [], ◌++◌, length, if◌then◌else◌, Option, Some, None, is_some, ◌==◌, sym, refl, ap, ◌∙◌, subst, ⊎_elim, inr, arith}
+use Rattle.std.proofs.Common.{◌≡◌, ◌⊎◌, ℕ, ◌<◌, ◌≤◌, Bool, true, false, List, [], ◌++◌, length, if◌then◌else◌, Option, Some, None, is_some, sym, refl, ap, ◌∙◌, subst, ⊎_elim, inr, arith}
 use Rattle.std.proofs.lemmas.Bool.Decides.{nat_tests}
+use Rattle.std.proofs.lemmas.Bool.{eq-eqb}
 use Rattle.worded.specs.Views.{has_tag}
 use Rattle.worded.specs.Histories.{entries_of}
 use Rattle.co_base.specs.declared.names.WaitId.{WaitId}
 use Rattle.channel_model.specs.declared.acts.Act.TheVariants.{Hand, Offer, Await, Put, Spurn, Close, Withdraw}
 use Rattle.channel_model.specs.declared.acts.Entry.{Entry}
 use Rattle.channel_model.specs.declared.acts.Kind.{Kind}
-use Rattle.channel_model.specs.declared.acts.Kind.TheVariants.{Rendezvous, Buffered, Unlimited, Conflated, DropOldest, DropLatest, Signal}
+use Rattle.channel_model.specs.declared.acts.Kind.TheVariants.{Rendezvous, Buffered, Signal}
 use Rattle.channel_model.specs.declared.acts.Why.{Why}
 use Rattle.channel_model.specs.declared.standing.Resolution.TheVariants as resolved
 use Rattle.channel_model.specs.Channels.{Shape, Wait, places_at, kind_at, is_signal, suspends, is_full}
@@ -70,10 +71,7 @@ admitted_stands : (p y k : ℕ) (w : WaitId) (z : Option Wait) → IsResolvedAs 
     → offer_of p y w k z ≡ Some (record { place = p; value = y; holder = None })
 admitted_stands p y k w None h = absurd h
 admitted_stands p y k w (Some z) h = ap (offer_by p y w k) h
-    ∙ ap (λ (b : Bool). if b then Some (record { place = p; value = y; holder = None }) else None) (same_clause k)
-  where
-    same_clause : (k : ℕ) → (k == k) ≡ true
-    same_clause k = grind (arith, nat_tests)
+    ∙ ap (λ (b : Bool). if b then Some (record { place = p; value = y; holder = None }) else None) (eq-eqb k k refl)
 
 -- the word of a kept element says so still
 pub kept_stands : (shape : Shape) (c p value : ℕ) (word : CellWord) (xs others : List Entry) → Legal shape (xs ++ others)
@@ -120,9 +118,8 @@ kept_given shape c p value word log l (held x a same is) = used_given (now log) 
 pub held_later : (shape : Shape) (by : Removal) (c : ℕ) (xs ys : List Entry) → Legal shape (xs ++ ys) → MayRemoveHeld by c xs
     → MayRemoveHeld by c (xs ++ ys)
 held_later shape removal.Take c xs ys l h = tt
-held_later shape removal.Drop c xs ys l h = h
-held_later shape removal.Spurn c xs ys l h = h
 held_later shape removal.Drain c xs ys l h = voided_later shape xs ys c l h
+held_later shape other c xs ys l h = h
 
 asks_later : (shape : Shape) (by : Removal) (c p : ℕ) (xs ys : List Entry) → Legal shape xs → Legal shape (xs ++ ys)
     → p < ((replay xs).channels c).next → NoneBelow 0 p ((replay xs).channels c) → is_some (stands (xs ++ ys) c p) ≡ true
@@ -138,11 +135,8 @@ asks_later shape removal.Drain c p xs ys lx l lt low stays h = voided_later shap
 pub full_less : (k : Kind) (n m : ℕ) → n ≤ m → is_full k m ≡ false → is_full k n ≡ false
 full_less Rendezvous n m le e = e
 full_less (Buffered k) n m le e = grind (arith, nat_tests)
-full_less Unlimited n m le e = refl
-full_less Conflated n m le e = refl
-full_less (DropOldest k) n m le e = refl
-full_less (DropLatest k) n m le e = refl
 full_less Signal n m le e = e
+full_less other n m le e = refl
 
 module _ (shape : Shape) (v : Seen) (who c p : ℕ) (own : has_tag who v.tags ≡ true) (lc : c < length shape) where
   pub offers : (value : ℕ) → p < places_at shape c → who < 65536 → number shape c p < 8388608 → value < 4294967296

@@ -86,7 +86,7 @@ module _ (f : ℕ → Option Standing) (at : (q : ℕ) (o : Standing) → f q �
 
 -- ---- it is removed
 
-none_holder : (h : Option Party) → is_none h ≡ true → h ≡ None
+pub none_holder : (h : Option Party) → is_none h ≡ true → h ≡ None
 none_holder None e = refl
 none_holder (Some p) e = cc
 

@@ -1,6 +1,7 @@
 -- How many offers stand up to a place, and when they are too many.
 use Rattle.std.proofs.Common.{◌≡◌, ℕ, zero, suc, ◌+◌, ◌-◌, ◌<◌, ◌≤◌, nat_le, nat_lt, cond, Bool, true, false, List, [], ◌∷◌, ◌++◌, length, Option, Some, None, is_some, sym, refl, ap, ◌∙◌, subst, inl, inr, arith, length-append, MatchBool}
 use Rattle.std.proofs.lemmas.Bool.Decides.{nat_tests}
+use Rattle.std.proofs.lemmas.Bool.{le-leb, lt-leb}
 use Rattle.channel_model.specs.declared.acts.Entry.{Entry}
 use Rattle.channel_model.specs.declared.acts.Kind.{Kind}
 use Rattle.channel_model.specs.declared.standing.Standing.{Standing}
@@ -22,12 +23,6 @@ use Rattle.cell_words.proofs.KeptBehind.{over_later}
 pub drops_as : (k kind : Kind) (much : ℕ → Bool) → k ≡ kind → ((n : ℕ) → drops k n ≡ much n) → (n : ℕ) → drops kind n ≡ much n
 drops_as k kind much is h n = sym (ap (λ (z : Kind). drops z n) is) ∙ h n
 
-in_front : (q m : ℕ) → q ≤ m → nat_le q m ≡ true
-in_front q m h = grind (arith, nat_tests)
-
-behind : (q m : ℕ) → m < q → nat_le q m ≡ false
-behind q m h = grind (arith, nat_tests)
-
 up_to_push : (m : ℕ) (xs : List Standing) (x : Standing) → offers_up_to m (xs ++ x ∷ []) ≡ offers_up_to m xs + cond (nat_le x.place m) 1 0
 up_to_push m [] x = omega arith
 up_to_push m (y ∷ ys) x = let ih = up_to_push m ys x in omega arith
@@ -40,7 +35,7 @@ module _ (f : ℕ → Option Standing) (at : (q : ℕ) (o : Standing) → f q �
       let a = up_to_push m (gather f n) x in
       let b = length-append (gather f n) (x ∷ []) in
       let one : ◌≡◌ {A = ℕ} (cond (nat_le x.place m) 1 0) 1 =
-      ap {B = ℕ} (λ (t : Bool). cond t 1 0) (in_front x.place m (let p = at n x e in omega arith)) in
+      ap {B = ℕ} (λ (t : Bool). cond t 1 0) (le-leb x.place m (let p = at n x e in omega arith)) in
       omega arith
 
   up_to_all : (n : ℕ) → n ≤ m + 1 → offers_up_to m (gather f n) ≡ length (gather f n)
@@ -53,7 +48,7 @@ module _ (f : ℕ → Option Standing) (at : (q : ℕ) (o : Standing) → f q �
   beyond_next n k lt ih (Some x) e =
       let a = up_to_push m (gather f n) x in
       let none : ◌≡◌ {A = ℕ} (cond (nat_le x.place m) 1 0) 0 =
-      ap {B = ℕ} (λ (t : Bool). cond t 1 0) (behind x.place m (let p = at n x e in omega arith)) in
+      ap {B = ℕ} (λ (t : Bool). cond t 1 0) (lt-leb x.place m (let p = at n x e in omega arith)) in
       omega arith
 
   up_to_more : (d n : ℕ) → n ≡ m + 1 + d → offers_up_to m (gather f n) ≡ length (gather f (m + 1))

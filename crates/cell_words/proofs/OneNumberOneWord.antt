@@ -72,7 +72,3 @@ mark_within shape c p lc lp = let h = number_within shape c p lc lp in omega ari
 pub same_mark : (shape : Shape) (c d p q : ℕ) → c < length shape → d < length shape → p ≤ places_at shape c → q ≤ places_at shape d
     → mark_number shape c p ≡ mark_number shape d q → (c ≡ d) × (p ≡ q)
 same_mark shape c d p q lc ld lp lq e = number_apart shape c d p q lc ld lp lq (omega arith)
-
-pub few_channels : (shape : Shape) → length shape ≤ cells_in shape
-few_channels [] = omega arith
-few_channels (x ∷ xs) = let h = few_channels xs in omega arith

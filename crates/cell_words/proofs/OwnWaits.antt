@@ -67,13 +67,9 @@ ready_seen shape who u v w tag s l h = subst (λ (es : List Entry). IsReadyWait 
     (ready_more shape who u v.seen s.others (subst (Legal shape) s.now l) (s.apart who tag) h)
 
 how_back : (how : Resolution) → resolution_found (how_word how) ≡ how
-how_back (resolved.Handed k v) = refl
-how_back (resolved.Taken k) = refl
-how_back (resolved.Admitted k) = refl
-how_back (resolved.Closed k v) = refl
 how_back (resolved.Withdrawn Cancelled) = refl
 how_back (resolved.Withdrawn Revoked) = refl
-how_back resolved.Voided = refl
+how_back other = refl
 
 -- its word is that of how it was resolved
 pub record ReadyWord (cancelled : Bool) (word : WaitWord) (y : Option Wait) : Type 0 where

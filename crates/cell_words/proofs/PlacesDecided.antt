@@ -1,6 +1,7 @@
 -- A place of which is decided whether its element was kept stays as it was decided, and so does a count of such places.
 use Rattle.std.proofs.Common.{◌≡◌, ◌⊎◌, ℕ, zero, suc, ◌+◌, ◌==◌, Bool, true, false, true≢false, not, List, ◌++◌, if◌then◌else◌, Option, Some, None, sym, refl, ap, ◌∙◌, subst, ⊎_elim, inl, inr, arith, eq-eqb, ◌/◌, ◌%◌}
 use Rattle.std.proofs.lemmas.Bool.{eqb-true}
+use Rattle.std.proofs.lemmas.Option.{same_Some}
 use Rattle.co_base.specs.declared.names.WaitId.{WaitId}
 use Rattle.channel_model.specs.declared.acts.Entry.{Entry}
 use Rattle.channel_model.specs.declared.standing.Resolution.{Resolution}
@@ -78,17 +79,13 @@ module _ (shape : Shape) (c p v who : ℕ) (w : WaitId) (k : ℕ) where
   of_how : (waits : WaitId → Option Wait) (q : ℕ) (how : Resolution)
       → (Some how ≡ Some (resolved.Admitted k) → IsResolvedAs (resolved.Admitted k) (waits w))
       → StaysOrAdmitted waits (emptied_if (offer_after q v k how) (offer v who w k))
-  of_how waits q (resolved.Handed j x) g = inl refl
-  of_how waits q (resolved.Taken j) g = inl refl
   of_how waits q (resolved.Admitted j) g = go (j == k) refl
     where
       go : (b : Bool) → (j == k) ≡ b
           → StaysOrAdmitted waits (emptied_if (if b then Some (record { place = q; value = v; holder = None }) else None) (offer v who w k))
       go true e = inr (refl, g (ap (λ (n : ℕ). Some (resolved.Admitted n)) (eqb-true j k e)))
       go false e = inl refl
-  of_how waits q (resolved.Closed j x) g = inl refl
-  of_how waits q (resolved.Withdrawn why) g = inl refl
-  of_how waits q resolved.Voided g = inl refl
+  of_how waits q other g = inl refl
 
   of_parts : (waits : WaitId → Option Wait) (q : ℕ) (how : Option Resolution)
       → (how ≡ Some (resolved.Admitted k) → IsResolvedAs (resolved.Admitted k) (waits w))
@@ -135,23 +132,17 @@ pub record Resolves (k : ℕ) (b : Bool) (y : Option Wait) : Type 0 where
   pub is : IsResolvedAs how y
   pub so : kept_after k how ≡ b
 
-some_bool : (a b : Bool) → Some a ≡ Some b → a ≡ b
-some_bool a b e = cc
-
 kept_resolved : (k : ℕ) (b : Bool) (y : Option Wait) → kept_of k y ≡ Some b → Resolves k b y
 kept_resolved k b None e = cc
 kept_resolved k b (Some x) e = go x.resolved refl e
   where
     go : (o : Option Resolution) → x.resolved ≡ o → kept_by k o ≡ Some b → Resolves k b (Some x)
     go None is f = cc
-    go (Some how) is f = record { how = how; is = is; so = some_bool (kept_after k how) b f }
+    go (Some how) is f = record { how = how; is = is; so = same_Some (kept_after k how) b f }
 
 kept_is : (k : ℕ) (how : Resolution) (y : Option Wait) → IsResolvedAs how y → kept_of k y ≡ Some (kept_after k how)
 kept_is k how None h = absurd h
 kept_is k how (Some x) h = ap (kept_by k) h
-
-same_clause : (k : ℕ) → (k == k) ≡ true
-same_clause k = eq-eqb k k refl
 
 -- an offer's cell, and what its wait says later
 pub offer_fate : (shape : Shape) (c p v who k : ℕ) (w : WaitId) (b : Bool) (xs ys : List Entry) → Legal shape (xs ++ ys)
@@ -161,7 +152,7 @@ offer_fate shape c p v who k w b xs ys l e h =
     (λ (x : cell_of (xs ++ ys) c p ≡ offer v who w k). ap (kept_in (was_over shape (xs ++ ys) c p) (replay (xs ++ ys)).waits) x ∙ h)
     (λ (x : (cell_of (xs ++ ys) c p ≡ emptied v) × IsResolvedAs (resolved.Admitted k) ((replay (xs ++ ys)).waits w)).
     ap (kept_in (was_over shape (xs ++ ys) c p) (replay (xs ++ ys)).waits) x.0 ∙ (ap (λ (z : Bool). Some (not z)) over
-    ∙ (ap (λ (z : Bool). Some z) (sym (same_clause k))
+    ∙ (ap (λ (z : Bool). Some z) (sym (eq-eqb k k refl))
     ∙ (sym (kept_is k (resolved.Admitted k) ((replay (xs ++ ys)).waits w) x.1) ∙ h))))
     (held_more_admitted shape c p v who w k xs ys l e)
 
@@ -196,9 +187,6 @@ pub record Split (x : Option Bool) (y : Option ℕ) (count : ℕ) : Type 0 where
   pub before : y ≡ Some rest
   pub sum : count ≡ rest + one_if kept
 
-pub some_number : (a b : ℕ) → Some a ≡ Some b → a ≡ b
-some_number a b e = cc
-
 pub split : (x : Option Bool) (y : Option ℕ) (count : ℕ) → add_kept x y ≡ Some count → Split x y count
 split None y count h = cc
 split (Some b) None count h = cc
@@ -207,7 +195,7 @@ split (Some b) (Some n) count h = record {
   rest = n;
   last = refl;
   before = refl;
-  sum = sym (some_number (n + one_if b) count h);
+  sum = sym (same_Some (n + one_if b) count h);
 }
 
 pub joined : (x : Option Bool) (y : Option ℕ) (b : Bool) (n count : ℕ) → x ≡ Some b → y ≡ Some n → count ≡ n + one_if b

@@ -1,7 +1,7 @@
 -- A place that is given out keeps the tie of lists and cells.
 use Rattle.std.proofs.Common.{◌≡◌, ℕ, ◌+◌, ◌≤◌, ◌==◌, Bool, true, false, ◌||◌, List, [], ◌∷◌, ◌++◌, if◌then◌else◌, Option, Some, None, sym, refl, ap, ◌∙◌, subst, arith, eq-eqb, MatchBool}
 use Rattle.std.specs.List.{list_any}
-use Rattle.std.proofs.lemmas.Bool.{eqb-true}
+use Rattle.std.proofs.lemmas.Bool.{eqb-true, or_right}
 use Rattle.std.proofs.lemmas.List.Folds.{list_any-append}
 use mathlib.Core.Logic.{dite}
 use native.Mathlib.Decide.{ℕ_discrete}
@@ -65,16 +65,12 @@ any_more : (j : ℕ) (y : ℕ × ℕ) (xs : List (ℕ × ℕ)) → list_any (λ 
     → list_any (λ (z : ℕ × ℕ). z.0 == j) (xs ++ y ∷ []) ≡ true
 any_more j y xs e = list_any-append (λ (z : ℕ × ℕ). z.0 == j) xs (y ∷ []) ∙ ap (λ b. b || ((y.0 == j) || false)) e
 
-or_true : (b : Bool) → (b || true) ≡ true
-or_true true = refl
-or_true false = refl
-
 here : (k : ℕ) → ((k == k) || false) ≡ true
 here k = ap (λ (b : Bool). b || false) (eq-eqb k k refl)
 
 any_last : (k c : ℕ) (xs : List (ℕ × ℕ)) → list_any (λ (z : ℕ × ℕ). z.0 == k) (xs ++ (k, c) ∷ []) ≡ true
 any_last k c xs = list_any-append (λ (z : ℕ × ℕ). z.0 == k) xs ((k, c) ∷ []) ∙ ap (λ b. list_any (λ (z : ℕ × ℕ). z.0 == k) xs || b) (here k)
-    ∙ or_true (list_any (λ (z : ℕ × ℕ). z.0 == k) xs)
+    ∙ or_right (list_any (λ (z : ℕ × ℕ). z.0 == k) xs) true refl
 
 among_more : (y : ℕ × ℕ) (xs : List (ℕ × ℕ)) (how : Option Resolution) → AdmittedAmong xs how → AdmittedAmong (xs ++ y ∷ []) how
 among_more y xs None h = tt

@@ -40,20 +40,12 @@ use Rattle.cell_words.proofs.WaitsResolved.{receiver_seen}
 -- ---- what the word of a wait says
 
 how_by : (how : Resolution) (outcome : Option Settled) → is_nobody (parts_word (Some how) outcome).by ≡ false
-how_by (resolved.Handed k v) None = refl
-how_by (resolved.Taken k) None = refl
-how_by (resolved.Admitted k) None = refl
-how_by (resolved.Closed k v) None = refl
 how_by (resolved.Withdrawn Cancelled) None = refl
 how_by (resolved.Withdrawn Revoked) None = refl
-how_by resolved.Voided None = refl
-how_by (resolved.Handed k v) (Some o) = refl
-how_by (resolved.Taken k) (Some o) = refl
-how_by (resolved.Admitted k) (Some o) = refl
-how_by (resolved.Closed k v) (Some o) = refl
+how_by other None = refl
 how_by (resolved.Withdrawn Cancelled) (Some o) = refl
 how_by (resolved.Withdrawn Revoked) (Some o) = refl
-how_by resolved.Voided (Some o) = refl
+how_by other (Some o) = refl
 
 -- nobody resolved it: it has the word 0
 nobody_code : (y : Option Wait) → is_nobody (word_of_wait y).by ≡ true → 0 ≡ wait_code y
@@ -152,14 +144,12 @@ clause_receive_found shape who c p k main word other u v h = h
 
 pub clause_offer_later : (shape : Shape) (who c p k value : ℕ) (main : Option WaitId) (u v w : Seen) → Sees u v → (a : At)
     → ClauseOfferAt shape who c p main k value v w a → ClauseOfferAt shape who c p main k value u w a
-clause_offer_later shape who c p k value main u v w s at.Spent h = (sees_then u v w s h.0, h.1)
 clause_offer_later shape who c p k value main u v w s at.Open h = h
 clause_offer_later shape who c p k value main u v w s at.Placed h = sees_makes u v w _ s h
 clause_offer_later shape who c p k value main u v w s at.Put h = h
 clause_offer_later shape who c p k value main u v w s (at.Waiting x) h = (sees_then u v w s h.0, h.1, h.2)
 clause_offer_later shape who c p k value main u v w s (at.Kept y) h = h
-clause_offer_later shape who c p k value main u v w s (at.Closed y) h = (sees_then u v w s h.0, h.1)
-clause_offer_later shape who c p k value main u v w s at.Gone h = (sees_then u v w s h.0, h.1)
+clause_offer_later shape who c p k value main u v w s other h = (sees_then u v w s h.0, h.1)
 
 pub clause_receive_later : (shape : Shape) (who c p k : ℕ) (main : Option WaitId) (u v w : Seen) → Sees u v → (a : At)
     → ClauseReceiveAt shape who c p main k v w a → ClauseReceiveAt shape who c p main k u w a
@@ -167,7 +157,5 @@ clause_receive_later shape who c p k main u v w s at.Spent h = (sees_then u v w 
 clause_receive_later shape who c p k main u v w s at.Open h = h
 clause_receive_later shape who c p k main u v w s at.Placed h = sees_makes u v w _ s h
 clause_receive_later shape who c p k main u v w s at.Put h = h
-clause_receive_later shape who c p k main u v w s (at.Waiting x) h = (sees_then u v w s h.0, h.1, h.2)
-clause_receive_later shape who c p k main u v w s (at.Kept y) h = (sees_then u v w s h.0, h.1, h.2)
-clause_receive_later shape who c p k main u v w s (at.Closed y) h = (sees_then u v w s h.0, h.1, h.2)
 clause_receive_later shape who c p k main u v w s at.Gone h = (sees_then u v w s h.0, h.1)
+clause_receive_later shape who c p k main u v w s other h = (sees_then u v w s h.0, h.1, h.2)

@@ -189,15 +189,13 @@ full_holds other n e h = cc
 pub later_at : (waits : Bool) (shape : Shape) (who c p value : ℕ) (u v w : Seen) → Sees u v → (x : Seen) → Sees v x → (a : At)
     → (a ≡ at.Placed → (waits ≡ true) × (is_full (kind_at shape c) (length (at_channel v.seen c).queue) ≡ true))
     → OfferAt shape who c p value x w a → OfferHere waits shape who c p value u w a
-later_at waits shape who c p value u v w s x r at.Spent full h = (sees_then u v w s (sees_then v x w r h.0), h.1)
 later_at waits shape who c p value u v w s x r at.Open full h = absurd h
 later_at waits shape who c p value u v w s x r at.Placed full h = let f = full refl
     in (f.0, record { then = v; sees = s; full = f.1; made = sees_makes v x w _ r h })
 later_at waits shape who c p value u v w s x r at.Put full h = sees_makes u v w _ s (sees_makes v x w _ r h)
 later_at waits shape who c p value u v w s x r (at.Waiting y) full h = (sees_then u v w s (sees_then v x w r h.0), h.1, h.2)
 later_at waits shape who c p value u v w s x r (at.Kept y) full h = absurd h
-later_at waits shape who c p value u v w s x r (at.Closed y) full h = (sees_then u v w s (sees_then v x w r h.0), h.1)
-later_at waits shape who c p value u v w s x r at.Gone full h = (sees_then u v w s (sees_then v x w r h.0), h.1)
+later_at waits shape who c p value u v w s x r other full h = (sees_then u v w s (sees_then v x w r h.0), h.1)
 
 -- a word that was found says the same to one who may wait and to one who does not
 pub found_here : (waits : Bool) (shape : Shape) (who c p value : ℕ) (word : CellWord) (s : CellState) (u v : Seen)
@@ -232,14 +230,12 @@ less_than n m le ne = dite (ℕ_discrete n m) (λ e. absurd (ne e)) (λ no. omeg
 -- after some looks, what an offer found
 pub offer_at_seen : (shape : Shape) (who c p value : ℕ) (u v w : Seen) → Sees u v → (a : At) → OfferAt shape who c p value v w a
     → OfferAt shape who c p value u w a
-offer_at_seen shape who c p value u v w s at.Spent h = (sees_then u v w s h.0, h.1)
 offer_at_seen shape who c p value u v w s at.Open h = absurd h
 offer_at_seen shape who c p value u v w s at.Placed h = sees_makes u v w _ s h
 offer_at_seen shape who c p value u v w s at.Put h = sees_makes u v w _ s h
 offer_at_seen shape who c p value u v w s (at.Waiting y) h = (sees_then u v w s h.0, h.1, h.2)
 offer_at_seen shape who c p value u v w s (at.Kept y) h = absurd h
-offer_at_seen shape who c p value u v w s (at.Closed y) h = (sees_then u v w s h.0, h.1)
-offer_at_seen shape who c p value u v w s at.Gone h = (sees_then u v w s h.0, h.1)
+offer_at_seen shape who c p value u v w s other h = (sees_then u v w s h.0, h.1)
 
 -- one who receives and never waits: a word that was found says the same to it
 pub receive_tried : (shape : Shape) (who c p : ℕ) (word : CellWord) (s : CellState) (u v : Seen)

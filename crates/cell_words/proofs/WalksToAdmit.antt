@@ -1,5 +1,5 @@
 -- What a walk that looks for an offer to admit knows of the places that it has passed.
-use Rattle.std.proofs.Common.{◌≡◌, ◌⊎◌, ℕ, zero, suc, ◌+◌, ◌-◌, ◌<◌, ◌≤◌, ◌==◌, nat_lt, Bool, true, false, true≢false, not, ◌&&◌, ◌||◌, List, [], ◌∷◌, ◌++◌, length, if◌then◌else◌, Option, Some, None, is_some, is_none, nat_le, append-nil, append_assoc, sym, refl, ap, ◌∙◌, subst, ⊎_elim, inl, inr, arith}
+use Rattle.std.proofs.Common.{◌≡◌, ◌⊎◌, ℕ, zero, suc, ◌+◌, ◌-◌, ◌<◌, ◌≤◌, nat_lt, Bool, true, false, true≢false, not, ◌&&◌, List, [], ◌∷◌, ◌++◌, length, if◌then◌else◌, Option, Some, None, is_some, is_none, nat_le, append-nil, append_assoc, sym, refl, ap, ◌∙◌, subst, ⊎_elim, inl, inr, arith}
 use Rattle.std.proofs.lemmas.Bool.Decides.{nat_tests}
 use mathlib.Core.Logic.{dite}
 use native.Mathlib.Decide.{ℕ_discrete, dec_le}
@@ -20,6 +20,7 @@ use Rattle.channel_model.specs.Laws.{NoneBelow, NoOffer, IsResolvedAs}
 use Rattle.channel_model.specs.Owing.{owes_admission_below}
 use Rattle.channel_model.specs.Answers.{IsAdmittedBelow, owner_of_holder}
 use Rattle.std.specs.List.{list_all}
+use Rattle.std.proofs.lemmas.Bool.{eq-eqb, or_from, or_parts, and_right, le-ltb}
 use Rattle.co_base.proofs.Orders.{order_same}
 use Rattle.channel_model.proofs.Elements.{all_first, all_rest}
 use Rattle.channel_model.proofs.EveryAct.{after_keeps}
@@ -41,8 +42,8 @@ use Rattle.cell_words.proofs.CellsTellFacts.{now, tied_now, used_given, none_off
 use Rattle.cell_words.proofs.CellsLast.{offer_used_more, kept_more, given_more}
 use Rattle.cell_words.proofs.CountsOfOffers.{cell_by_none, gone_more, stood_before, count_some, count_none, count_next, count_less, count_up}
 use Rattle.cell_words.proofs.KeptBehind.{Keeps, kept_cell, stands_kept, kept_behind, board_none, waits_keeps}
-use Rattle.cell_words.proofs.MayExchange.{full_less}
 use Rattle.cell_words.proofs.LooksAtCells.{below_seen, given_seen, sees_then, sees_makes}
+use Rattle.channel_model.proofs.PlacedFull.{full_more}
 
 -- ---- nobody waits with the element at a place
 
@@ -50,13 +51,10 @@ holder_none : (h : Option Party) → is_some h ≡ false → h ≡ None
 holder_none None e = refl
 holder_none (Some x) e = cc
 
-same_clause : (k : ℕ) → (k == k) ≡ true
-same_clause k = grind (arith, nat_tests)
-
 admitted_free : (p v k : ℕ) (w : WaitId) (y : Option Wait) → IsResolvedAs (resolved.Admitted k) y → waits_with (offer_of p v w k y) ≡ false
 admitted_free p v k w None h = absurd h
 admitted_free p v k w (Some x) h = ap (λ (z : Option _). waits_with (offer_by p v w k z)) h
-    ∙ ap (λ (b : Bool). waits_with (if b then Some (record { place = p; value = v; holder = None }) else None)) (same_clause k)
+    ∙ ap (λ (b : Bool). waits_with (if b then Some (record { place = p; value = v; holder = None }) else None)) (eq-eqb k k refl)
 
 -- a kept element stays kept, or it goes
 kept_or_gone : (shape : Shape) (c q : ℕ) (xs ys : List Entry) → Legal shape (xs ++ ys) → (y : Cell) → cell_of xs c q ≡ y
@@ -317,41 +315,19 @@ walked_gone c low place count log h given none = record {
 
 -- ---- nothing may be admitted
 
-or_false : (a b : Bool) → a ≡ false → b ≡ false → (a || b) ≡ false
-or_false true b e f = e
-or_false false b e f = f
-
-or_parts : (a b : Bool) → (a || b) ≡ false → (a ≡ false) × (b ≡ false)
-or_parts true b e = absurd (true≢false e)
-or_parts false b e = (refl, e)
-
-and_false : (a b : Bool) → b ≡ false → (a && b) ≡ false
-and_false true b e = e
-and_false false b e = refl
-
 owes_push : (kind : Kind) (mark k : ℕ) (xs : List Standing) (x : Standing) → owes_admission_below kind mark k xs ≡ false
     → (is_some x.holder && (nat_lt x.place mark && not (is_full kind (k + length xs)))) ≡ false
     → owes_admission_below kind mark k (xs ++ x ∷ []) ≡ false
-owes_push kind mark k [] x e f = or_false (is_some x.holder
+owes_push kind mark k [] x e f = or_from (is_some x.holder
     && (nat_lt x.place mark && not (is_full kind k))) false
     (ap (λ (z : ℕ). is_some x.holder && (nat_lt x.place mark && not (is_full kind z))) (omega arith) ∙ f) refl
 owes_push kind mark k (y ∷ ys) x e f =
     let parts = or_parts (is_some y.holder && (nat_lt y.place mark && not (is_full kind k))) (owes_admission_below kind mark (k + 1) ys) e
     in
-    or_false (is_some y.holder && (nat_lt y.place mark && not (is_full kind k))) (owes_admission_below kind mark (k + 1) (ys ++ x ∷ []))
+    or_from (is_some y.holder && (nat_lt y.place mark && not (is_full kind k))) (owes_admission_below kind mark (k + 1) (ys ++ x ∷ []))
     parts.0
     (owes_push kind mark (k + 1) ys x parts.1 (ap (λ (z : ℕ). is_some x.holder
     && (nat_lt x.place mark && not (is_full kind z))) (omega arith) ∙ f))
-
-full_more : (kind : Kind) (n m : ℕ) → n ≤ m → is_full kind n ≡ true → is_full kind m ≡ true
-full_more kind n m le e = go (is_full kind m) refl
-  where
-    go : (b : Bool) → is_full kind m ≡ b → is_full kind m ≡ true
-    go true is = is
-    go false is = absurd (true≢false (sym e ∙ full_less kind n m le is))
-
-not_less : (n m : ℕ) → m ≤ n → nat_lt n m ≡ false
-not_less n m h = grind (arith, nat_tests)
 
 module _ (kind : Kind) (f : ℕ → Option Standing) (mark place : ℕ) (nobody : (q : ℕ) → q < place → waits_with (f q) ≡ false) where
   free_step : (n : ℕ) → n < place → owes_admission_below kind mark 0 (gather f n) ≡ false → (o : Option Standing) → f n ≡ o
@@ -370,10 +346,10 @@ module _ (kind : Kind) (f : ℕ → Option Standing) (mark place : ℕ) (nobody 
         → owes_admission_below kind mark 0 (add_some o (gather f n)) ≡ false
     beyond_step n d is ih None e = ih
     beyond_step n d is ih (Some x) e = owes_push kind mark 0 (gather f n) x ih
-        (and_false (is_some x.holder) (nat_lt x.place mark && not (is_full kind (0 + length (gather f n)))) (⊎_elim
+        (and_right (is_some x.holder) (nat_lt x.place mark && not (is_full kind (0 + length (gather f n)))) (⊎_elim
         (λ (le : mark ≤ place). ap (λ (b : Bool). b && not (is_full kind (0 + length (gather f n))))
-        (not_less x.place mark (let p = at n x e in omega arith)))
-        (λ (full : is_full kind (length (gather f place)) ≡ true). and_false (nat_lt x.place mark)
+        (le-ltb x.place mark (let p = at n x e in omega arith)))
+        (λ (full : is_full kind (length (gather f place)) ≡ true). and_right (nat_lt x.place mark)
         (not (is_full kind (0 + length (gather f n))))
         (ap not (full_more kind (length (gather f place)) (0 + length (gather f n)) (let m = count_up f place d n is in omega arith) full)))
         end))
@@ -411,10 +387,10 @@ module _ (shape : Shape) (c low place count mark : ℕ) (log : List Entry) (l : 
 owes_full : (kind : Kind) (mark k : ℕ) (xs : List Standing) → ((n : ℕ) → is_full kind n ≡ true)
     → owes_admission_below kind mark k xs ≡ false
 owes_full kind mark k [] full = refl
-owes_full kind mark k (x ∷ xs) full = or_false (is_some x.holder
+owes_full kind mark k (x ∷ xs) full = or_from (is_some x.holder
     && (nat_lt x.place mark && not (is_full kind k))) (owes_admission_below kind mark (k + 1) xs)
-    (and_false (is_some x.holder) (nat_lt x.place mark && not (is_full kind k))
-    (and_false (nat_lt x.place mark) (not (is_full kind k)) (ap not (full k)))) (owes_full kind mark (k + 1) xs full)
+    (and_right (is_some x.holder) (nat_lt x.place mark && not (is_full kind k))
+    (and_right (nat_lt x.place mark) (not (is_full kind k)) (ap not (full k)))) (owes_full kind mark (k + 1) xs full)
 
 pub never_keeps : (shape : Shape) (c mark : ℕ) (s : State) → ((n : ℕ) → is_full (kind_at shape c) n ≡ true) → IsAdmittedBelow shape c mark s
 never_keeps shape c mark s full = owes_full (kind_at shape c) mark 0 (s.channels c).queue full
@@ -429,7 +405,7 @@ keeps_none shape c most kind none n = ap (λ (k : Kind). is_full k n) kind ∙ a
 owes_kept : (kind : Kind) (mark k : ℕ) (xs : List Standing) → list_all (λ (o : Standing). is_none o.holder) xs ≡ true
     → owes_admission_below kind mark k xs ≡ false
 owes_kept kind mark k [] h = refl
-owes_kept kind mark k (x ∷ xs) h = or_false (is_some x.holder
+owes_kept kind mark k (x ∷ xs) h = or_from (is_some x.holder
     && (nat_lt x.place mark && not (is_full kind k))) (owes_admission_below kind mark (k + 1) xs)
     (ap (λ (b : Bool). b && (nat_lt x.place mark && not (is_full kind k)))
     (not_some x.holder (all_first (λ (o : Standing). is_none o.holder) x xs h)))
@@ -450,7 +426,15 @@ pub within_places : (shape : Shape) (c p : ℕ) (log : List Entry) → Legal sha
 within_places shape c p log l le = let w = ((sound shape log l).channels c).within in omega arith
 
 pub sees_self : (v : Seen) → Sees v v
-sees_self v = record { others = []; now = sym (append-nil v.seen); apart = λ t h. refl; tags = refl; giving = refl; order = order_same v.order }
+sees_self v = record {
+  others = [];
+  now = sym (append-nil v.seen);
+  apart = λ t h. refl;
+  tags = refl;
+  giving = refl;
+  order =
+      order_same v.order;
+}
 
 pub nothing_now : (shape : Shape) (c mark : ℕ) (u v : Seen) → Sees u v → IsAdmittedBelow shape c mark (replay v.seen)
     → NothingToAdmit shape c mark u v

@@ -34,13 +34,12 @@ cell_narrow shape c p (buffered v) h = record { clause = omega arith; holder = o
 cell_narrow shape c p other h = record { clause = omega arith; holder = omega arith; value = h }
 
 pub how_narrow : (how : Resolution) → HowFits how → IsNarrowWait (how_word how)
-how_narrow (resolved.Handed k v) h = record { clause = h.0; value = h.1 }
 how_narrow (resolved.Taken k) h = record { clause = h; value = omega arith }
 how_narrow (resolved.Admitted k) h = record { clause = h; value = omega arith }
-how_narrow (resolved.Closed k v) h = record { clause = h.0; value = h.1 }
 how_narrow (resolved.Withdrawn Cancelled) h = record { clause = omega arith; value = omega arith }
 how_narrow (resolved.Withdrawn Revoked) h = record { clause = omega arith; value = omega arith }
 how_narrow resolved.Voided h = record { clause = omega arith; value = omega arith }
+how_narrow other h = record { clause = h.0; value = h.1 }
 
 parts_narrow : (how : Option Resolution) (outcome : Option Settled) → PartsFit how → IsNarrowWait (parts_word how outcome)
 parts_narrow None outcome h = record { clause = omega arith; value = omega arith }

@@ -39,12 +39,9 @@ use Rattle.note_book.specs.declared.book.Item.{Item}
 
 -- a wait that ends as cancelled though its Job was not had been withdrawn or voided
 back_resolution : (how : Resolution) → outcome_of how false ≡ settled.Cancelled → is_withdrawn_or_voided (Some how) ≡ true
-back_resolution (resolved.Handed k v) e = cc
-back_resolution (resolved.Taken k) e = cc
-back_resolution (resolved.Admitted k) e = cc
-back_resolution (resolved.Closed k v) e = cc
 back_resolution (resolved.Withdrawn why) e = refl
 back_resolution resolved.Voided e = refl
+back_resolution other e = cc
 
 back_how : (how : Option Resolution) → outcome_of_some false how ≡ Some settled.Cancelled → is_withdrawn_or_voided how ≡ true
 back_how None e = cc
@@ -62,10 +59,7 @@ end_is_told {w} false settled.Cancelled {a} {b} s e f =
     let at = moment_before a.who act a.floor b.floor (λ t. IsWithdrawnOrVoided (t.waits w)) s.0
     (back_wait ((replay a.floor.seen).waits w) s.1) in
     told_made_after (TakenBack w) act s.0 (λ t. tt) at e f
-end_is_told false (settled.Value n v) s e f = settle_told s.0 e f
-end_is_told false (settled.Sent n) s e f = settle_told s.0 e f
-end_is_told false (settled.Closed n v) s e f = settle_told s.0 e f
-end_is_told false (settled.Undelivered v) s e f = settle_told s.0 e f
+end_is_told false other s e f = settle_told s.0 e f
 end_is_told true outcome s e f = settle_told s.0 e f
 
 pub dispatched : (cancelled : Bool) {n : ℕ} {w : WaitId} {a b d : SeenOnChannels} {outcome : Settled} → IsRoomed n a b

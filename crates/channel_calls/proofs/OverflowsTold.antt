@@ -35,13 +35,8 @@ use Rattle.channel_calls.proofs.Roomed.{IsRoomed, roomed}
 -- ---- the element itself
 
 spurning : (kind : Kind) (c place v n : ℕ) → spurns kind n ≡ true → after_put kind c place (Spurn c place v ∷ []) ≡ true
-spurning Rendezvous c place v n e = cc
-spurning (Buffered k) c place v n e = cc
-spurning Unlimited c place v n e = cc
-spurning Conflated c place v n e = cc
-spurning (DropOldest k) c place v n e = cc
 spurning (DropLatest k) c place v n e = ap (λ b. b && (place == place)) (same_number c) ∙ same_number place
-spurning Signal c place v n e = cc
+spurning other c place v n e = cc
 
 -- the removal of what a call put follows its Put
 spurn_follows : (who c v place : ℕ) (a b : Floor) → Legal b.shape b.seen → Made who (Spurn c place v) a b

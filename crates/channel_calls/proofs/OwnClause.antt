@@ -2,7 +2,7 @@
 use Rattle.std.specs.Prelude.{◌≡◌, ℕ, ◌==◌, Bool, true, false, not, ◌||◌, List, [], ◌∷◌, ◌++◌, filter, Option, Some, None, refl, if◌then◌else◌}
 use Rattle.std.specs.List.{list_any}
 use Rattle.std.proofs.Common.{sym, ◌∙◌, subst}
-use Rattle.std.proofs.lemmas.Bool.{eqb-true}
+use Rattle.std.proofs.lemmas.Bool.{eqb-true, or_left, or_right}
 use Rattle.std.proofs.lemmas.List.Folds.{list_any-append}
 use Rattle.co_base.specs.declared.names.WaitId.{WaitId}
 use Rattle.channel_model.specs.declared.acts.Act.{Act}
@@ -40,12 +40,9 @@ OffersFit waits (o ∷ os) = HolderFits waits o.holder × OffersFit waits os
 
 -- a wait that was received or admitted was so at a clause of its own
 abbrev EndFits : Resolution → Option Wait → Type 0
-EndFits (resolved.Handed k v) x = Unit {0}
 EndFits (resolved.Taken k) x = HasClause k x
 EndFits (resolved.Admitted k) x = HasClause k x
-EndFits (resolved.Closed k v) x = Unit {0}
-EndFits (resolved.Withdrawn why) x = Unit {0}
-EndFits resolved.Voided x = Unit {0}
+EndFits other x = Unit {0}
 
 abbrev SomeEndFits : Option Resolution → Option Wait → Type 0
 SomeEndFits None x = Unit {0}
@@ -60,14 +57,6 @@ record Fits (s : State) : Type 0 where
   waits : (w : WaitId) → WaitFits (s.waits w)
 
 -- ---- clauses are never taken away
-
-or_left : (a b : Bool) → a ≡ true → (a || b) ≡ true
-or_left true b e = refl
-or_left false b e = cc
-
-or_right : (a b : Bool) → b ≡ true → (a || b) ≡ true
-or_right true b e = refl
-or_right false b e = e
 
 resolved_has : (j : ℕ) (how : Resolution) (x : Option Wait) → HasClause j x → HasClause j (resolved_wait how x)
 resolved_has j how None h = h
@@ -134,12 +123,9 @@ holder_at_fits waits p (o ∷ os) h = by_test (o.place == p) (holder_at_fits wai
 
 resolved_end : (how : Resolution) (x : Option Wait) → EndFits how x → WaitFits (resolved_wait how x)
 resolved_end how None e = tt
-resolved_end (resolved.Handed k v) (Some x) e = tt
 resolved_end (resolved.Taken k) (Some x) e = e
 resolved_end (resolved.Admitted k) (Some x) e = e
-resolved_end (resolved.Closed k v) (Some x) e = tt
-resolved_end (resolved.Withdrawn why) (Some x) e = tt
-resolved_end resolved.Voided (Some x) e = tt
+resolved_end other (Some x) e = tt
 
 resolve_fits : (v : WaitId) (how : Resolution) (s : State) → EndFits how (s.waits v) → Fits s → Fits (resolve v how s)
 resolve_fits v how s e h = record {

@@ -81,8 +81,6 @@ splits_off e d f made old new from to (Err split.Memory) through was now bare pa
 
 pub splits_not : (e d f : End) (old new from : Option End) (fault : SplitFault) → d ≡ e → old ≡ Some e → new ≡ Some f → from ≡ None
     → SplitSo d f (Err fault) → Splits old new from from (Err fault)
-splits_not e d f old new from split.NoEnd through was now bare s = absurd s
-splits_not e d f old new from split.InUse through was now bare s = absurd s
 splits_not e d f old new from split.NoTag through was now bare s =
     let own : SplitSo e f (Err split.NoTag) = subst (λ (x : End). SplitSo x f (Err split.NoTag)) through s in (
       (bare, bare),
@@ -96,3 +94,4 @@ splits_not e d f old new from split.Memory through was now bare s =
       (bare, bare),
       record { before = e; after = f; was = was; is = now; ring = ap ring_of own.1; tag = ap (λ (x : End). x.tag) own.1 },
     )
+splits_not e d f old new from other through was now bare s = absurd s

@@ -44,10 +44,6 @@ pub count_any : {X : Type 0} (f : X → Bool) (xs : List X) → 1 ≤ how_many f
 count_any f [] h = absurd (omega arith)
 count_any f (x ∷ xs) h = one_counted (f x) (list_any f xs) (how_many f xs) h (count_any f xs)
 
-pub count_last : {X : Type 0} (f : X → Bool) (xs : List X) (x : X) → how_many f (xs ++ x ∷ []) ≡ how_many f xs + cond (f x) 1 0
-count_last f [] x = omega arith
-count_last f (y ∷ ys) x = let k = count_last f ys x in omega arith
-
 -- an element that passes the test, with all that it shows of the list
 abbrev Found : {X : Type 0} → (X → Bool) → List X → Type 0
 Found {X} f xs = (x : X) × (f x ≡ true) × ((g : X → Bool) → g x ≡ true → list_any g xs ≡ true)

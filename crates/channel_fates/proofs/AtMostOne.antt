@@ -2,6 +2,7 @@
 use Rattle.std.specs.Prelude.{◌≡◌, ℕ, ◌+◌, ◌≤◌, ◌==◌, nat_lt, Bool, true, false, not, ◌&&◌, ◌||◌, cond, List, [], ◌∷◌, Option, Some, None, refl, ◌⊎◌}
 use Rattle.std.specs.List.{list_any}
 use Rattle.std.proofs.Common.{sym, ap, ◌∙◌, subst, arith, inl, inr, ⊎_elim}
+use Rattle.std.proofs.lemmas.Bool.{or_cases, and_parts, not-true}
 use Rattle.co_base.specs.declared.names.WaitId.{WaitId}
 use Rattle.channel_model.specs.declared.acts.Act.{Act}
 use Rattle.channel_model.specs.declared.acts.Act.TheVariants.{Take, Drop, Spurn, Drain}
@@ -22,23 +23,11 @@ use Rattle.channel_fates.proofs.Traced.{Traced, replay_traced}
 
 -- ---- what each test says
 
-pub or_either : (a b : Bool) → (a || b) ≡ true → (a ≡ true) ⊎ (b ≡ true)
-or_either true b e = inl refl
-or_either false b e = inr e
-
-pub and_both : (a b : Bool) → (a && b) ≡ true → (a ≡ true) × (b ≡ true)
-and_both true b e = (refl, e)
-and_both false b e = cc
-
-not_true : (b : Bool) → not b ≡ true → b ≡ false
-not_true true e = cc
-not_true false e = refl
-
 pub some_wait : (f : WaitId → Bool) (o : Option WaitId) → of_wait f o ≡ true → (w : WaitId) × (o ≡ Some w) × (f w ≡ true)
 some_wait f None e = cc
 some_wait f (Some w) e = (w, refl, e)
 
-some_offer : (f : ℕ → Bool) (o : Option ℕ) → of_offer f o ≡ true → (k : ℕ) × (o ≡ Some k) × (f k ≡ true)
+pub some_offer : (f : ℕ → Bool) (o : Option ℕ) → of_offer f o ≡ true → (k : ℕ) × (o ≡ Some k) × (f k ≡ true)
 some_offer f None e = cc
 some_offer f (Some k) e = (k, refl, e)
 
@@ -48,14 +37,14 @@ HandedAs f c p acts = (list_any (hands c p) acts ≡ true) × ((w : WaitId) × (
 
 handed_as : (f : WaitId → Bool) (c p : ℕ) (acts : List Act) → (list_any (hands c p) acts && of_wait f (wait_at c p acts)) ≡ true
     → HandedAs f c p acts
-handed_as f c p acts e = let k = and_both _ _ e in (k.0, some_wait f (wait_at c p acts) k.1)
+handed_as f c p acts e = let k = and_parts _ _ e in (k.0, some_wait f (wait_at c p acts) k.1)
 
 abbrev pub ends_as : (WaitId → Act → Bool) → List Act → WaitId → Bool
 ends_as test acts w = list_any (test w) acts
 
 pub received_is : (c p : ℕ) (acts : List Act) → is_received c p acts ≡ true → (list_any (takes c p) acts ≡ true)
     ⊎ HandedAs (ends_as settles_value acts) c p acts
-received_is c p acts e = ⊎_elim (λ k. inl k) (λ k. inr (handed_as (ends_as settles_value acts) c p acts k)) (or_either _ _ e)
+received_is c p acts e = ⊎_elim (λ k. inl k) (λ k. inr (handed_as (ends_as settles_value acts) c p acts k)) (or_cases _ _ e)
 
 -- a wait of an offer here was withdrawn, or answered elsewhere
 abbrev pub OtherEnd : ℕ → ℕ → List Act → WaitId → Type 0
@@ -68,7 +57,8 @@ OfferedAs f c p acts = (k : ℕ) × (first_some (offers_at c p) acts ≡ Some k)
 
 taken_back_is : (c p : ℕ) (acts : List Act) → is_taken_back c p acts ≡ true → (w : WaitId) × (wait_at c p acts ≡ Some w)
     × OtherEnd c p acts w
-taken_back_is c p acts e = let k = some_wait (λ w. list_any (withdraws w) acts) (wait_at c p acts) (and_both _ _ e).1 in (k.0, k.1, inl k.2)
+taken_back_is c p acts e = let k = some_wait (λ w. list_any (withdraws w) acts) (wait_at c p acts) (and_parts _ _ e).1
+    in (k.0, k.1, inl k.2)
 
 is_wait_some : (w : WaitId) (o : Option WaitId) → is_wait w o ≡ true → o ≡ Some w
 is_wait_some w None e = cc
@@ -77,7 +67,7 @@ is_wait_some w (Some v) e = ap (λ u. Some u) (sym (same_wait-eq w v e))
 elsewhere_at : (c p : ℕ) (w : WaitId) (acts : List Act) (o : Option (ℕ × ℕ)) → resolves_elsewhere c p w acts o ≡ true → (d : ℕ) × (q : ℕ)
     × (o ≡ Some (d, q)) × (is_at c p d q ≡ false) × (wait_at d q acts ≡ Some w)
 elsewhere_at c p w acts None e = cc
-elsewhere_at c p w acts (Some x) e = let k = and_both _ _ e in (x.0, x.1, refl, not_true _ k.0, is_wait_some w (wait_at x.0 x.1 acts) k.1)
+elsewhere_at c p w acts (Some x) e = let k = and_parts _ _ e in (x.0, x.1, refl, not-true _ k.0, is_wait_some w (wait_at x.0 x.1 acts) k.1)
 
 pub elsewhere_is : (c p : ℕ) (w : WaitId) (acts : List Act) → is_chosen_elsewhere c p w acts ≡ true → (d : ℕ) × (q : ℕ)
     × (is_at c p d q ≡ false) × Chosen acts d q w
@@ -95,25 +85,25 @@ undelivered_is c p acts e =
     (λ k. inl (handed_as (ends_as settles_undelivered acts) c p acts k))
     (λ k.
     let o = some_offer (λ k. (k == 0) && is_taken_back c p acts) (first_some (offers_at c p) acts) k in
-    let b = and_both _ _ o.2 in
+    let b = and_parts _ _ o.2 in
     inr (o.0, o.1, b.0, taken_back_is c p acts b.1))
-    (or_either _ _ m)))
-    (or_either _ _ e)
+    (or_cases _ _ m)))
+    (or_cases _ _ e)
 
 pub withdrawn_is : (c p : ℕ) (acts : List Act) → is_withdrawn c p acts ≡ true → OfferedAs (λ k. nat_lt 0 k) c p acts
 withdrawn_is c p acts e =
     let o = some_offer (λ k. nat_lt 0 k && (is_taken_back c p acts
     || (not (list_any (admits c p) acts) && of_wait (λ w. is_chosen_elsewhere c p w acts) (wait_at c p acts))))
     (first_some (offers_at c p) acts) e in
-    let b = and_both _ _ o.2 in (
+    let b = and_parts _ _ o.2 in (
       o.0,
       o.1,
       b.0,
       ⊎_elim
           (λ k. taken_back_is c p acts k)
-          (λ k. let x = some_wait (λ w. is_chosen_elsewhere c p w acts) (wait_at c p acts) (and_both _ _ k).1
+          (λ k. let x = some_wait (λ w. is_chosen_elsewhere c p w acts) (wait_at c p acts) (and_parts _ _ k).1
           in (x.0, x.1, inr (elsewhere_is c p x.0 acts x.2)))
-          (or_either _ _ b.1),
+          (or_cases _ _ b.1),
     )
 
 -- ---- counts
@@ -135,7 +125,7 @@ takes_resolve : (c p : ℕ) (act : Act) → takes c p act ≡ true → resolver 
 takes_resolve c p (Take d q v) e = e
 takes_resolve c p other e = cc
 
-drains_resolve : (c p : ℕ) (act : Act) → drains c p act ≡ true → resolver c p act ≡ true
+pub drains_resolve : (c p : ℕ) (act : Act) → drains c p act ≡ true → resolver c p act ≡ true
 drains_resolve c p (Drain d q v) e = e
 drains_resolve c p other e = cc
 

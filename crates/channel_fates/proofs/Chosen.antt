@@ -5,7 +5,7 @@ use Rattle.std.proofs.Common.{sym, ap, ◌∙◌, subst, arith, inl, inr, ⊎_el
 use Rattle.std.proofs.lemmas.Bool.{eqb-true}
 use Rattle.co_base.specs.declared.names.WaitId.{WaitId}
 use Rattle.channel_model.specs.declared.acts.Act.{Act}
-use Rattle.channel_model.specs.declared.acts.Act.TheVariants.{Hand, Put, Offer, Await, Take, Admit, Drop, Spurn, Close, Void, Drain, WakeClosed, Withdraw, Settle}
+use Rattle.channel_model.specs.declared.acts.Act.TheVariants.{Hand, Offer, Await, Take, Admit, Drain, WakeClosed, Withdraw}
 use Rattle.channel_model.specs.declared.acts.Kind.{Kind}
 use Rattle.channel_model.specs.declared.standing.Party.{Party}
 use Rattle.channel_model.specs.declared.standing.Standing.{Standing}
@@ -16,9 +16,10 @@ use Rattle.channel_model.specs.Needs.{Needs, IsFirstOffer, IsFirstReceiver, MayB
 use Rattle.channel_model.specs.Fates.{is_at, admits, withdraws, wait_at, places_wait, resolves_at, removes}
 use Rattle.channel_model.specs.Laws.{how_many, wait_of_party, first_waiting, first_holding, resolves}
 use Rattle.channel_model.proofs.Waits.{same_wait-eq, same_wait-refl}
-use Rattle.channel_fates.proofs.Appended.{any_count, count_last, found, first_found, first_kept, first_last}
+use Rattle.channel_fates.proofs.Appended.{any_count, found, first_found, first_kept, first_last}
 use Rattle.channel_fates.proofs.OncePlaced.{enters, awaits, answers, Counted, at_both}
 use Rattle.channel_fates.proofs.StandsByActs.{puts, offers, HolderKnown, OfferKnown, ReceiverKnown, AllKnown, places_none, enters_count}
+use Rattle.channel_model.proofs.Apart.{how_many_push}
 
 -- ---- the wait that an act resolves is that of its place
 
@@ -63,36 +64,16 @@ moved acts o x y e h = let k : x ≡ y = cc in subst (Source acts o) k h
 pub source_of : (shape : Shape) (acts : List Act) (s : State) (who : ℕ) (act : Act) → Needs shape s who act → AllKnown acts s → (x : ℕ × ℕ)
     → resolves_at act ≡ Some x → Source acts (resolves s act) x
 source_of shape acts s who (Hand c p v) n h x e = moved acts _ (c, p) x e (receiver_source acts c p _ (h c).receivers n.2)
-source_of shape acts s who (Put c p v) n h x e = cc
-source_of shape acts s who (Offer c p v w k) n h x e = cc
-source_of shape acts s who (Await c p w k) n h x e = cc
 source_of shape acts s who (Take c p v) n h x e = moved acts _ (c, p) x e (offer_source acts c p v _ (h c).offers n.1)
 source_of shape acts s who (Admit c p) n h x e = moved acts _ (c, p) x e (admitted_source acts (kind_at shape c) c p 0 _ (h c).offers n.1)
-source_of shape acts s who (Drop c p v) n h x e = cc
-source_of shape acts s who (Spurn c p v) n h x e = cc
-source_of shape acts s who (Close c v) n h x e = cc
-source_of shape acts s who (Void c) n h x e = cc
 source_of shape acts s who (Drain c p v) n h x e = moved acts _ (c, p) x e (offer_source acts c p v _ (h c).offers n.2)
 source_of shape acts s who (WakeClosed c p) n h x e = moved acts _ (c, p) x e (receiver_source acts c p _ (h c).receivers n.2)
-source_of shape acts s who (Withdraw w why) n h x e = cc
-source_of shape acts s who (Settle w outcome) n h x e = cc
+source_of shape acts s who other n h x e = cc
 
 -- an act that resolves a wait and names no place withdraws it
 pub withdraws_only : (s : State) (act : Act) (w : WaitId) → resolves_at act ≡ None → resolves s act ≡ Some w → withdraws w act ≡ true
-withdraws_only s (Hand c p x) w e f = cc
-withdraws_only s (Put c p x) w e f = cc
-withdraws_only s (Offer c p x u i) w e f = cc
-withdraws_only s (Await c p u i) w e f = cc
-withdraws_only s (Take c p x) w e f = cc
-withdraws_only s (Admit c p) w e f = cc
-withdraws_only s (Drop c p x) w e f = cc
-withdraws_only s (Spurn c p x) w e f = cc
-withdraws_only s (Close c x) w e f = cc
-withdraws_only s (Void c) w e f = cc
-withdraws_only s (Drain c p x) w e f = cc
-withdraws_only s (WakeClosed c p) w e f = cc
 withdraws_only s (Withdraw u why) w e f = let m : w ≡ u = cc in subst (λ x. same_wait w x ≡ true) m (same_wait-refl w)
-withdraws_only s (Settle u outcome) w e f = cc
+withdraws_only s other w e f = cc
 
 pub withdrawn_now : (s : State) (act : Act) (w : WaitId) → withdraws w act ≡ true → (resolves s act ≡ Some w) × (resolves_at act ≡ None)
 withdrawn_now s (Withdraw v why) w e = (ap (λ u. Some u) (sym (same_wait-eq w v e)), refl)
@@ -160,7 +141,7 @@ wait_before c p acts act w g h e = by_wait (wait_at c p acts) refl
     by_wait None k =
         let m : places_wait c p act ≡ Some w = sym (first_last (places_wait c p) acts act k) ∙ e in
         let n = placing c p act w m in
-        absurd (omega (arith, count_last (enters c p) acts act, count_last (awaits c p) acts act))
+        absurd (omega (arith, how_many_push (enters c p) acts act, how_many_push (awaits c p) acts act))
 
 waiting : (c p : ℕ) (act : Act) (w : WaitId) → places_wait c p act ≡ Some w → (offers c p act ≡ true) ⊎ (awaits c p act ≡ true)
 waiting c p (Offer d q v u k) w e = by_test (is_at c p d q) e

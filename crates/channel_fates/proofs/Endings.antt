@@ -2,6 +2,7 @@
 use Rattle.std.specs.Prelude.{◌≡◌, ℕ, Bool, true, false, ◌&&◌, List, [], ◌∷◌, ◌++◌, length, Option, Some, None, refl, ◌⊎◌, is_some}
 use Rattle.std.specs.List.{list_any}
 use Rattle.std.proofs.Common.{sym, ap, ◌∙◌, subst, arith, inl, inr, ⊎_elim}
+use Rattle.std.proofs.lemmas.Bool.{and_parts}
 use Rattle.co_base.specs.declared.names.WaitId.{WaitId}
 use Rattle.channel_model.specs.declared.acts.Act.{Act}
 use Rattle.channel_model.specs.declared.acts.Act.TheVariants.{Hand, Offer, Drop, Spurn, Settle}
@@ -21,12 +22,13 @@ use Rattle.channel_model.specs.Laws.{first_waiting, resolves, settles}
 use Rattle.channel_model.proofs.Waits.{same_wait-eq, same_wait-refl, at_wait}
 use Rattle.channel_model.proofs.Resolutions.{resolved_stays, settled_stays, Turns, resolves_turns, settles_turns, always_keeps}
 use Rattle.channel_model.specs.Answers.{IsResolvedWait, IsSettledWait}
-use Rattle.channel_fates.proofs.Appended.{any_kept, any_last, any_cases, any_count, count_last, first_kept}
+use Rattle.channel_fates.proofs.Appended.{any_kept, any_last, any_cases, any_count, first_kept}
 use Rattle.channel_fates.proofs.OncePlaced.{enters, counted_after, at_both}
 use Rattle.channel_fates.proofs.StandsByActs.{puts, offers, enters_count, handed_answered}
 use Rattle.channel_model.proofs.Causes.{resolution_of, resolution_kept, settled_before}
 use Rattle.channel_fates.proofs.Chosen.{Unheld, source_of, wait_before}
 use Rattle.channel_fates.proofs.ChosenOnce.{Told}
+use Rattle.channel_model.proofs.Apart.{how_many_push}
 
 -- ---- settling
 
@@ -35,17 +37,13 @@ settle_of : (act : Act) (w : WaitId) → settles act ≡ Some w → (outcome : S
 settle_of (Settle v outcome) w e = let k : v ≡ w = cc in (outcome, ap (λ u. Settle u outcome) k)
 settle_of other w e = cc
 
-both_true : (a b : Bool) → (a && b) ≡ true → (a ≡ true) × (b ≡ true)
-both_true true b e = (refl, e)
-both_true false b e = cc
-
 value_settles : (w : WaitId) (act : Act) → settles_value w act ≡ true → settles act ≡ Some w
-value_settles w (Settle v outcome) e = ap (λ u. Some u) (sym (same_wait-eq w v (both_true (same_wait w v) (is_value outcome) e).0))
+value_settles w (Settle v outcome) e = ap (λ u. Some u) (sym (same_wait-eq w v (and_parts (same_wait w v) (is_value outcome) e).0))
 value_settles w other e = cc
 
 undelivered_settles : (w : WaitId) (act : Act) → settles_undelivered w act ≡ true → settles act ≡ Some w
 undelivered_settles w (Settle v outcome) e = ap (λ u. Some u)
-    (sym (same_wait-eq w v (both_true (same_wait w v) (is_undelivered outcome) e).0))
+    (sym (same_wait-eq w v (and_parts (same_wait w v) (is_undelivered outcome) e).0))
 undelivered_settles w other e = cc
 
 value_or_not : (outcome : Settled) → is_value outcome ≡ true → is_undelivered outcome ≡ true → ⊥
@@ -54,8 +52,8 @@ value_or_not other e f = cc
 
 settles_one : (w : WaitId) (outcome : Settled) → settles_value w (Settle w outcome) ≡ true → settles_undelivered w (Settle w outcome) ≡ true
     → ⊥
-settles_one w outcome e f = value_or_not outcome (both_true (same_wait w w) (is_value outcome) e).1
-    (both_true (same_wait w w) (is_undelivered outcome) f).1
+settles_one w outcome e f = value_or_not outcome (and_parts (same_wait w w) (is_value outcome) e).1
+    (and_parts (same_wait w w) (is_undelivered outcome) f).1
 
 not_both : (w : WaitId) (act : Act) → settles_value w act ≡ true → settles_undelivered w act ≡ true → ⊥
 not_both w act e f =
@@ -191,7 +189,7 @@ module _ (shape : Shape) (acts : List Act) (s : State) (who : ℕ) (act : Act) (
       let g = counted_after shape acts s who act n t.counted c p in
       let r = g.receivers in
       let one = g.given in
-      let more = count_last (enters c p) acts act in
+      let more = how_many_push (enters c p) acts act in
       ⊎_elim
       (λ k. let x = any_count (puts c p) acts k in let m = enters_count c p acts in omega arith)
       (λ k. let x = (t.counted c p).admitted k in omega arith)

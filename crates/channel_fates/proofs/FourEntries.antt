@@ -2,7 +2,7 @@
 use Rattle.std.specs.Prelude.{◌≡◌, ℕ, ◌+◌, ◌<◌, ◌≤◌, ◌==◌, Bool, true, false, not, ◌||◌, cond, List, [], ◌∷◌, Option, Some, None, is_none, is_some, refl, if◌then◌else◌, MatchBool}
 use Rattle.std.specs.List.{list_all}
 use Rattle.std.proofs.Common.{sym, ap, ◌∙◌, subst, arith, inl, ⊎_elim, ne_eqb}
-use Rattle.std.proofs.lemmas.Bool.{eqb-true, cases_lt}
+use Rattle.std.proofs.lemmas.Bool.{eqb-true, cases_lt, or_right}
 use Rattle.co_base.specs.declared.names.WaitId.{WaitId}
 use Rattle.channel_model.specs.declared.acts.Act.{Act}
 use Rattle.channel_model.specs.declared.acts.Act.TheVariants.{Hand, Admit}
@@ -14,12 +14,11 @@ use Rattle.channel_model.specs.declared.standing.Standing.{Standing}
 use Rattle.channel_model.specs.declared.standing.Receiver.{Receiver}
 use Rattle.channel_model.specs.Answers.{IsResolvedWait}
 use Rattle.channel_model.specs.Channels.{Shape, State, Channel, Wait, start, places_at, kind_at, is_full}
-use Rattle.channel_model.specs.Effects.{after, is_held_by, admitted, place_offer, place_receiver, holder_at, put_channel, resolve_holder, with_queue, is_elsewhere}
+use Rattle.channel_model.specs.Effects.{after, is_held_by, admitted, place_offer, place_receiver, holder_at, resolve_holder, with_queue, is_elsewhere}
 use Rattle.channel_model.specs.Needs.{Needs, HasPlace, MayBeAdmitted}
 use Rattle.channel_model.specs.Histories.{replay, acts_in, Legal, LegalFrom}
 use Rattle.channel_model.specs.Fates.{admits, withdraws, removes}
 use Rattle.channel_model.specs.Laws.{how_many, Ascends, StandsInOrder, resolves, settles, one_if, resolutions_from, settlements_of}
-use Rattle.channel_model.proofs.Placed.{same_number}
 use Rattle.channel_model.proofs.Elements.{all_filter, all_rest, all_first, all_more, all_push}
 use Rattle.channel_model.proofs.EveryAct.{ChannelKeeps, after_keeps}
 use Rattle.channel_model.proofs.InOrder.{order_keeps}
@@ -30,6 +29,7 @@ use Rattle.channel_fates.proofs.OncePlaced.{enters, answers, awaits, at_both}
 use Rattle.channel_fates.proofs.ChosenOnce.{admitted_resolved}
 use Rattle.channel_fates.proofs.OwnPlaces.{name_of}
 use Rattle.channel_fates.proofs.Traced.{replay_traced}
+use Rattle.channel_model.proofs.Left.{put_here}
 
 -- ---- an offer is admitted at most once
 
@@ -114,14 +114,10 @@ now_free p n m kind k (o ∷ os) h a = by_test (o.place == p) refl a (λ b. now_
         → (list_all (is_free p) (if b then record o { holder = None } ∷ os else o ∷ admitted p os) ≡ true) × (p < m)
     by_test true e a later =
         let at : o.place ≡ p = eqb-true o.place p e in (
-          all_more (is_free p) (record o { holder = None }) os (or_last (not (o.place == p)))
+          all_more (is_free p) (record o { holder = None }) os (or_right (not (o.place == p)) true refl)
               (above_free p (o.place + 1) m os (omega arith) h.1),
           let l = below (o.place + 1) m os h.1 in omega arith,
         )
-      where
-        or_last : (b : Bool) → (b || true) ≡ true
-        or_last true = refl
-        or_last false = refl
     by_test false e a later =
         let rest = later a in
         (all_more (is_free p) o (admitted p os) (ap (λ b. not b || is_none o.holder) e) rest.0, rest.1)
@@ -142,9 +138,6 @@ not_held p kind k (o ∷ os) h a = by_test (o.place == p) refl a (λ b. not_held
         × (is_full kind k ≡ false)) (MayBeAdmitted kind p (k + 1) os) → (MayBeAdmitted kind p (k + 1) os → ⊥) → ⊥
     by_test true e a later = held (o.place == p) o e (all_first (is_free p) o os h) a.0
     by_test false e a later = later a
-
-put_here : (c : ℕ) (x : Channel) (channels : ℕ → Channel) → put_channel c x channels c ≡ x
-put_here c x channels = ap (λ b. if b then x else channels c) (same_number c)
 
 -- so an admission leaves none held at its place
 admit_frees : (shape : Shape) (s : State) (who c p : ℕ) → StandsInOrder (s.channels c)
@@ -191,7 +184,7 @@ admissions shape c p s (e ∷ es) l h =
 
 -- ---- a wait is withdrawn at most once
 
-withdraw_resolves : (w : WaitId) (s : State) (act : Act) → cond (withdraws w act) 1 0 ≤ one_if w (resolves s act)
+pub withdraw_resolves : (w : WaitId) (s : State) (act : Act) → cond (withdraws w act) 1 0 ≤ one_if w (resolves s act)
 withdraw_resolves w s (Hand c p v) = omega arith
 withdraw_resolves w s other = omega arith
 

@@ -2,7 +2,7 @@
 use Rattle.std.specs.Prelude.{◌≡◌, ℕ, ◌≤◌, ◌==◌, nat_lt, Bool, true, false, not, ◌&&◌, ◌||◌, List, [], ◌∷◌, Option, Some, None, refl, if◌then◌else◌, ◌⊎◌, ◌↔◌, is_some, is_none}
 use Rattle.std.specs.List.{list_any, AllByRecursion}
 use Rattle.std.proofs.Common.{sym, ap, ◌∙◌, subst, arith, inl, inr, ⊎_elim}
-use Rattle.std.proofs.lemmas.Bool.{eqb-true, cases_lt}
+use Rattle.std.proofs.lemmas.Bool.{eqb-true, cases_lt, or_cases, and_parts, and_from, or_left, or_right, or_parts, both_ways}
 use Rattle.std.proofs.lemmas.Bool.Decides.{nat_tests}
 use Rattle.std.proofs.Math.Bool.{or-true}
 use Rattle.co_base.specs.declared.names.WaitId.{WaitId}
@@ -32,7 +32,7 @@ use Rattle.channel_fates.proofs.KeptUntilRemoved.{frees, is_free}
 use Rattle.channel_fates.proofs.HeldWhileOpen.{Stands, is_held, offer_of}
 use Rattle.channel_fates.proofs.OwnPlaces.{alone}
 use Rattle.channel_fates.proofs.Traced.{Traced, replay_traced}
-use Rattle.channel_fates.proofs.AtMostOne.{or_either, some_wait, HandedAs, ends_as, OfferedAs, received_is, undelivered_is, withdrawn_is, leaves_count, handed_alone, handed_or_left, handed_or_offered, resolved_here, and_both}
+use Rattle.channel_fates.proofs.AtMostOne.{some_wait, HandedAs, ends_as, OfferedAs, received_is, undelivered_is, withdrawn_is, leaves_count, handed_alone, handed_or_left, handed_or_offered, resolved_here}
 
 -- ---- a fate is held where no other applies
 
@@ -74,7 +74,7 @@ either_holds false b r k e = ap (λ x. b || x) e ∙ or-true b
 
 place_of_value : (p v : ℕ) (os : List Standing) → stands_in p v os ≡ true → place_stands p os ≡ true
 place_of_value p v os e = let x = found (λ (o : Standing). (o.place == p) && (o.value == v)) os e
-    in x.2 (λ o. o.place == p) (and_both _ _ x.1).0
+    in x.2 (λ o. o.place == p) (and_parts _ _ x.1).0
 
 -- what stands has the value that came to its place
 value_stands : (acts : List Act) (c p v : ℕ) (os : List Standing) → AllByRecursion (OfferKnown acts c) os → element_at c p acts ≡ Some v
@@ -135,13 +135,13 @@ element_came c p v acts e =
     ⊎_elim (λ k. inl (f.2 (hands c p) k)) (λ m. ⊎_elim (λ k. inr (inl (f.2 (puts c p) k))) (λ k. inr (inr (f.2 (offers c p) k))) m)
     (came c p v f.0 f.1)
 
-offer_waits : (c p : ℕ) (act : Act) → offers c p act ≡ true → (w : WaitId) × (places_wait c p act ≡ Some w)
+pub offer_waits : (c p : ℕ) (act : Act) → offers c p act ≡ true → (w : WaitId) × (places_wait c p act ≡ Some w)
 offer_waits c p act e = let o = offer_of c p act e in (o.1, ap (places_wait c p) o.3 ∙ ap (λ b. if b then Some o.1 else None) (here c p))
 
-offer_clause : (c p : ℕ) (act : Act) → offers c p act ≡ true → (k : ℕ) × (offers_at c p act ≡ Some k)
+pub offer_clause : (c p : ℕ) (act : Act) → offers c p act ≡ true → (k : ℕ) × (offers_at c p act ≡ Some k)
 offer_clause c p act e = let o = offer_of c p act e in (o.2, ap (offers_at c p) o.3 ∙ ap (λ b. if b then Some o.2 else None) (here c p))
 
-await_waits : (c p : ℕ) (act : Act) → awaits c p act ≡ true → (w : WaitId) × (places_wait c p act ≡ Some w)
+pub await_waits : (c p : ℕ) (act : Act) → awaits c p act ≡ true → (w : WaitId) × (places_wait c p act ≡ Some w)
 await_waits c p (Await d q w k) e = (w, ap (λ b. if b then Some w else None) e)
 await_waits c p other e = cc
 
@@ -163,37 +163,20 @@ placed_in p f os k h = let x = found f os (count_any f os h) in x.2 (λ o. o.pla
 
 -- ---- tests, from what they say
 
-both_hold : (a b : Bool) → a ≡ true → b ≡ true → (a && b) ≡ true
-both_hold true b e f = f
-both_hold false b e f = cc
-
-first_holds : (a b : Bool) → a ≡ true → (a || b) ≡ true
-first_holds a b e = ap (λ x. x || b) e
-
-second_holds : (a b : Bool) → b ≡ true → (a || b) ≡ true
-second_holds a b e = ap (λ x. a || x) e ∙ or-true a
-
-neither : (a b : Bool) → (a || b) ≡ false → (a ≡ false) × (b ≡ false)
-neither true b e = cc
-neither false b e = (refl, e)
-
-holds_not : (b : Bool) → b ≡ true → b ≡ false → ⊥
-holds_not b e f = cc
-
 wait_holds : (f : WaitId → Bool) (o : Option WaitId) (w : WaitId) → o ≡ Some w → f w ≡ true → of_wait f o ≡ true
 wait_holds f o w e h = ap (of_wait f) e ∙ h
 
 offer_holds : (f : ℕ → Bool) (o : Option ℕ) (k : ℕ) → o ≡ Some k → f k ≡ true → of_offer f o ≡ true
 offer_holds f o k e h = ap (of_offer f) e ∙ h
 
-chosen_elsewhere : (acts : List Act) (c p d q : ℕ) (w : WaitId) → is_at c p d q ≡ false → Chosen acts d q w
+pub chosen_elsewhere : (acts : List Act) (c p d q : ℕ) (w : WaitId) → is_at c p d q ≡ false → Chosen acts d q w
     → is_chosen_elsewhere c p w acts ≡ true
 chosen_elsewhere acts c p d q w e h =
     let f = found (resolver d q) acts h.1 in
     let at = this_place d q (resolves_at f.0) f.1 in
     let is : is_wait w (wait_at d q acts) ≡ true = ap (is_wait w) h.0 ∙ same_wait-refl w in
     f.2 (λ a. resolves_elsewhere c p w acts (resolves_at a)) (ap (resolves_elsewhere c p w acts) at
-    ∙ both_hold (not (is_at c p d q)) (is_wait w (wait_at d q acts)) (ap not e) is)
+    ∙ and_from (not (is_at c p d q)) (is_wait w (wait_at d q acts)) (ap not e) is)
 
 -- ---- what stands, or is not settled, has no other fate
 
@@ -269,9 +252,9 @@ module _ (shape : Shape) (acts : List Act) (s : State) (t : Traced shape acts s)
   held_where_standing h =
       ⊎_elim
       (λ e. standing_held e)
-      (λ e. let k = and_both _ _ e in let x = some_wait (λ w. is_unsettled (s.waits w)) (wait_at c p acts) k.1
+      (λ e. let k = and_parts _ _ e in let x = some_wait (λ w. is_unsettled (s.waits w)) (wait_at c p acts) k.1
       in unsettled_held x.0 k.0 x.1 x.2)
-      (or_either _ _ h)
+      (or_cases _ _ h)
 
 -- ---- what has no other fate stands, or is not settled
 
@@ -283,29 +266,29 @@ module _ (shape : Shape) (acts : List Act) (s : State) (t : Traced shape acts s)
 
   nothing_left : how_many (removes c p) acts ≡ 0
   nothing_left =
-      let a = none_count (takes c p) acts (neither _ _ received).0 in
-      let b = none_count (drains c p) acts (neither _ _ undelivered).0 in
+      let a = none_count (takes c p) acts (or_parts _ _ received).0 in
+      let b = none_count (drains c p) acts (or_parts _ _ undelivered).0 in
       let d = none_count (drops_at c p) acts dropped in
       let x = none_count (spurns_at c p) acts spurned in
       omega (arith, leaves_count c p acts)
 
   freed_stands : 1 ≤ how_many (frees c p) acts → PlaceStands c p acts s
   freed_stands h =
-      first_holds _ _ (placed_in p (is_free p) (s.channels c).queue (λ o e. (and_both (o.place == p) _ e).0)
+      or_left _ _ (placed_in p (is_free p) (s.channels c).queue (λ o e. (and_parts (o.place == p) _ e).0)
       (omega (arith, t.kept.kept c p, nothing_left)))
 
   held_stands : (w : WaitId) → Stands p w (s.channels c) → PlaceStands c p acts s
-  held_stands w h = first_holds _ _ (placed_in p (is_held p w) (s.channels c).queue (λ o e. (and_both (o.place == p) _ e).0) h)
+  held_stands w h = or_left _ _ (placed_in p (is_held p w) (s.channels c).queue (λ o e. (and_parts (o.place == p) _ e).0) h)
 
   -- an end of a handed wait is a fate
   handed_end : (w : WaitId) → list_any (hands c p) acts ≡ true → wait_at c p acts ≡ Some w → (list_any (settles_value w) acts ≡ true)
       ⊎ (list_any (settles_undelivered w) acts ≡ true) → ⊥
   handed_end w h e x =
       ⊎_elim
-      (λ k. holds_not _ (both_hold _ _ h (wait_holds (λ u. list_any (settles_value u) acts) (wait_at c p acts) w e k))
-      (neither _ _ received).1)
-      (λ k. holds_not _ (both_hold _ _ h (wait_holds (λ u. list_any (settles_undelivered u) acts) (wait_at c p acts) w e k))
-      (neither _ _ (neither _ _ undelivered).1).0)
+      (λ k. both_ways _ (or_parts _ _ received).1 (and_from _ _ h
+      (wait_holds (λ u. list_any (settles_value u) acts) (wait_at c p acts) w e k)))
+      (λ k. both_ways _ (or_parts _ _ (or_parts _ _ undelivered).1).0
+      (and_from _ _ h (wait_holds (λ u. list_any (settles_undelivered u) acts) (wait_at c p acts) w e k)))
       x
 
   handed_unsettled : list_any (hands c p) acts ≡ true → PlaceStands c p acts s
@@ -316,7 +299,7 @@ module _ (shape : Shape) (acts : List Act) (s : State) (t : Traced shape acts s)
       let how = t.ended.handed c p w.0 h w.1 in
       ⊎_elim
       (λ k. absurd (handed_end w.0 h w.1 (t.ended.given w.0 how k)))
-      (λ k. second_holds _ _ (both_hold _ _ h (wait_holds (λ u. is_unsettled (s.waits u)) (wait_at c p acts) w.0 w.1 k)))
+      (λ k. or_right _ _ (and_from _ _ h (wait_holds (λ u. is_unsettled (s.waits u)) (wait_at c p acts) w.0 w.1 k)))
       (settled_or (s.waits w.0) (handed_resolved (s.waits w.0) how))
 
   -- at a select's clause
@@ -324,20 +307,19 @@ module _ (shape : Shape) (acts : List Act) (s : State) (t : Traced shape acts s)
       → (is_taken_back c p acts || (not (list_any (admits c p) acts) && of_wait (λ w. is_chosen_elsewhere c p w acts) (wait_at c p acts))) ≡
       true → ⊥
   select_ended k e l h =
-      holds_not _
-      (offer_holds (λ j. nat_lt 0 j && (is_taken_back c p acts
+      both_ways _ withdrawn (offer_holds (λ j. nat_lt 0 j && (is_taken_back c p acts
       || (not (list_any (admits c p) acts) && of_wait (λ w. is_chosen_elsewhere c p w acts) (wait_at c p acts))))
-      (first_some (offers_at c p) acts) k e (both_hold _ _ (grind (arith, nat_tests)) h))
-      withdrawn
+      (first_some (offers_at c p) acts) k e (and_from _ _ (grind (arith, nat_tests)) h))
 
   taken_back : (k : ℕ) → first_some (offers_at c p) acts ≡ Some k → is_taken_back c p acts ≡ true → ⊥
   taken_back k e h =
       ⊎_elim
-      (λ l. select_ended k e l (first_holds _ _ h))
+      (λ l. select_ended k e l (or_left _ _ h))
       (λ l.
       let z : k ≡ 0 = omega arith in
-      holds_not _ (offer_holds (λ j. (j == 0) && is_taken_back c p acts) (first_some (offers_at c p) acts) k e
-      (both_hold _ _ (ap (λ j. j == 0) z) h)) (neither _ _ (neither _ _ undelivered).1).1)
+      both_ways _ (or_parts _ _ (or_parts _ _ undelivered).1).1
+      (offer_holds (λ j. (j == 0) && is_taken_back c p acts) (first_some (offers_at c p) acts) k e
+      (and_from _ _ (ap (λ j. j == 0) z) h)))
       (cases_lt 0 k)
 
   -- an act that answered the place is an end of its element
@@ -348,7 +330,7 @@ module _ (shape : Shape) (acts : List Act) (s : State) (t : Traced shape acts s)
       (λ k. let n = any_count (answers c p) acts (f.2 (answers c p) k) in omega (arith, given.receivers, given.given))
       (λ m. ⊎_elim
       (λ k. let n = any_count (removes c p) acts (f.2 (removes c p) k) in omega (arith, nothing_left))
-      (λ k. holds_not _ (f.2 (admits c p) k) none)
+      (λ k. both_ways _ none (f.2 (admits c p) k))
       m)
       (resolver_is c p f.0 f.1)
 
@@ -356,19 +338,19 @@ module _ (shape : Shape) (acts : List Act) (s : State) (t : Traced shape acts s)
       → list_any (admits c p) acts ≡ false → is_at c p d q ≡ false → Chosen acts d q w → ⊥
   answered_elsewhere k d q w e f none away h =
       ⊎_elim
-      (λ l. select_ended k e l (second_holds _ _ (both_hold _ _ (ap not none)
+      (λ l. select_ended k e l (or_right _ _ (and_from _ _ (ap not none)
       (wait_holds (λ u. is_chosen_elsewhere c p u acts) (wait_at c p acts) w f (chosen_elsewhere acts c p d q w away h)))))
       (λ l.
       let z : k ≡ 0 = omega arith in
       let m = alone acts s t.own c p d q w (e ∙ ap (λ x. Some x) z) f h.0 in
-      holds_not _ (here c p) (subst (λ x. is_at c p c x ≡ false) (sym m.1) (subst (λ x. is_at c p x q ≡ false) (sym m.0) away)))
+      both_ways _ (subst (λ x. is_at c p c x ≡ false) (sym m.1) (subst (λ x. is_at c p x q ≡ false) (sym m.0) away)) (here c p))
       (cases_lt 0 k)
 
   offered_unanswered : (k : ℕ) (w : WaitId) → how_many (enters c p) acts ≡ 1 → first_some (offers_at c p) acts ≡ Some k
       → wait_at c p acts ≡ Some w → list_any (admits c p) acts ≡ false → IsResolvedWait (s.waits w) → ⊥
   offered_unanswered k w one e f none h =
       ⊎_elim
-      (λ x. taken_back k e (both_hold _ _ (ap not none) (wait_holds (λ u. list_any (withdraws u) acts) (wait_at c p acts) w f x)))
+      (λ x. taken_back k e (and_from _ _ (ap not none) (wait_holds (λ u. list_any (withdraws u) acts) (wait_at c p acts) w f x)))
       (λ x. by_place x.0 x.1 x.2 (is_at c p x.0 x.1) refl)
       (t.chosen.known w h)
     where

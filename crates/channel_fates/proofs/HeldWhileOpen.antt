@@ -19,13 +19,15 @@ use Rattle.channel_model.proofs.Waits.{same_wait-eq, same_wait-refl}
 use Rattle.channel_model.proofs.Resolutions.{resolved_stays, resolves_turns, always_keeps}
 use Rattle.channel_model.specs.Answers.{IsResolvedWait}
 use Rattle.channel_model.proofs.Placed.{same_number}
-use Rattle.channel_fates.proofs.Appended.{any_cases, any_count, count_last}
+use Rattle.channel_fates.proofs.Appended.{any_cases, any_count}
 use Rattle.channel_fates.proofs.OncePlaced.{counted_after, at_both}
 use Rattle.channel_fates.proofs.StandsByActs.{offers, HolderKnown, OfferKnown, enters_count, wait_placed, here}
 use Rattle.channel_fates.proofs.Chosen.{wait_before}
 use Rattle.channel_fates.proofs.ChosenOnce.{Told}
 use Rattle.channel_fates.proofs.Endings.{KindsKept, waits_or_drops, waits_or_spurns}
 use Rattle.channel_fates.proofs.KeptUntilRemoved.{filter_keeps}
+use Rattle.channel_model.proofs.Apart.{how_many_push}
+use Rattle.channel_model.proofs.Left.{put_here}
 
 -- ---- words
 
@@ -160,7 +162,7 @@ admitted_stands p q w (o ∷ os) h = by_test (o.place == q) (first_or_rest p w o
 
 offer_comes : (p : ℕ) (w : WaitId) (b : Bool) (o : Standing) (ch : Channel) → Stands p w ch → Stands p w (place_offer b o ch)
 offer_comes p w false o ch h = h
-offer_comes p w true o ch h = let k = count_last (is_held p w) ch.queue o in omega arith
+offer_comes p w true o ch h = let k = how_many_push (is_held p w) ch.queue o in omega arith
 
 receiver_comes : (p : ℕ) (w : WaitId) (b : Bool) (r : Receiver) (ch : Channel) → Stands p w ch → Stands p w (place_receiver b r ch)
 receiver_comes p w false r ch h = h
@@ -220,12 +222,9 @@ offer_placed : (p v k : ℕ) (w : WaitId) (ch : Channel) → Stands p w
     (place_offer true (record { place = p; value = v; holder = Some (record { wait = w; clause = k }) }) ch)
 offer_placed p v k w ch =
     let o : Standing = record { place = p; value = v; holder = Some (record { wait = w; clause = k }) } in
-    let n = count_last (is_held p w) ch.queue o in
+    let n = how_many_push (is_held p w) ch.queue o in
     let one : ◌≡◌ {A = ℕ} (cond (is_held p w o) 1 0) 1 = ap (λ b. cond b 1 0) (held_itself p w) in
     omega arith
-
-at_channel : (c : ℕ) (x : Channel) (channels : ℕ → Channel) → put_channel c x channels c ≡ x
-at_channel c x channels = ap (λ b. if b then x else channels c) (same_number c)
 
 offered_now : (who c p v k : ℕ) (w : WaitId) (s : State)
     → (IsResolvedWait (s.waits w) → IsResolvedWait ((after s who (Offer c p v w k)).waits w))
@@ -235,7 +234,7 @@ offered_now who c p v k w s stays = by_open (is_open (s.waits w)) refl
     by_open : (b : Bool) → is_open (s.waits w) ≡ b → IsResolvedWait ((after s who (Offer c p v w k)).waits w)
         ⊎ Stands p w (put_channel c (place_offer b (record { place = p; value = v; holder = Some (record { wait = w; clause = k }) })
         (s.channels c)) s.channels c)
-    by_open true e = inr (subst (Stands p w) (sym (at_channel c _ s.channels)) (offer_placed p v k w (s.channels c)))
+    by_open true e = inr (subst (Stands p w) (sym (put_here c _ s.channels)) (offer_placed p v k w (s.channels c)))
     by_open false e = inl (stays (not_open (s.waits w) e))
 
 module _ (shape : Shape) (acts : List Act) (s : State) (who : ℕ) (act : Act) (n : Needs shape s who act) (t : Told acts s)

@@ -15,8 +15,8 @@ use Rattle.channel_model.specs.Effects.{after, resolve, resolve_first, resolve_h
 use Rattle.channel_model.specs.Needs.{Needs, IsFirstOffer, MayBeAdmitted}
 use Rattle.channel_model.specs.Fates.{is_at, removes}
 use Rattle.channel_model.specs.Laws.{how_many}
-use Rattle.channel_fates.proofs.Appended.{count_last}
 use Rattle.channel_fates.proofs.OncePlaced.{put_by, Counted}
+use Rattle.channel_model.proofs.Apart.{how_many_push}
 
 -- ---- words
 
@@ -150,7 +150,7 @@ offer_spurned c p d q s once = by_test (d == c) refl
 
 offer_comes : (p : ℕ) (b : Bool) (o : Standing) (ch : Channel) → Keeps p false false ch (place_offer b o ch)
 offer_comes p false o ch = record { kept = omega arith }
-offer_comes p true o ch = let k = count_last (is_free p) ch.queue o in record { kept = omega arith }
+offer_comes p true o ch = let k = how_many_push (is_free p) ch.queue o in record { kept = omega arith }
 
 and_last : (b : Bool) → (b && true) ≡ b
 and_last true = refl
@@ -159,7 +159,7 @@ and_last false = refl
 put_comes : (p q v : ℕ) (ch : Channel) → Keeps p false (q == p) ch (place_offer true (record { place = q; value = v; holder = None }) ch)
 put_comes p q v ch =
     let o : Standing = record { place = q; value = v; holder = None } in
-    let k = count_last (is_free p) ch.queue o in
+    let k = how_many_push (is_free p) ch.queue o in
     let same : ◌≡◌ {A = ℕ} (cond (is_free p o) 1 0) (cond (q == p) 1 0) = ap (λ b. cond b 1 0) (and_last (q == p)) in
     record { kept = omega arith }
 
@@ -227,8 +227,8 @@ pub kept_after : (shape : Shape) (acts : List Act) (s : State) (who : ℕ) (act 
     → ((c p : ℕ) → Counted c p acts (s.channels c)) → KeptUntil acts s → KeptUntil (acts ++ act ∷ []) (after s who act)
 kept_after shape acts s who act n told h = record {
   kept = λ c p. kept_then (how_many (frees c p) acts) _ _ _ _ _ _ _ (h.kept c p)
-      (act_keeps c p shape s who act (let t = told c p in omega (arith, t.queue, t.given)) n).kept (count_last (frees c p) acts act)
-      (count_last (removes c p) acts act);
+      (act_keeps c p shape s who act (let t = told c p in omega (arith, t.queue, t.given)) n).kept (how_many_push (frees c p) acts act)
+      (how_many_push (removes c p) acts act);
 }
   where
     kept_then : (f l x y a b f' l' : ℕ) → f ≤ l + x → x + a ≤ y + b → f' ≡ f + a → l' ≡ l + b → f' ≤ l' + y

@@ -1,4 +1,3 @@
-pub mod Turning
 pub mod Appended
 pub mod OncePlaced
 pub mod StandsByActs

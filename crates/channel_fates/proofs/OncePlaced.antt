@@ -17,8 +17,8 @@ use Rattle.channel_model.specs.Needs.{Needs, IsFirstOffer, IsFirstReceiver, MayB
 use Rattle.channel_model.specs.Fates.{is_at, admits, removes}
 use Rattle.channel_model.specs.Laws.{how_many}
 use Rattle.channel_model.proofs.Waits.{same_wait-refl}
-use Rattle.channel_fates.proofs.Turning.{filtered_less}
-use Rattle.channel_fates.proofs.Appended.{any_cases, count_last}
+use Rattle.channel_fates.proofs.Appended.{any_cases}
+use Rattle.channel_model.proofs.Apart.{how_many_push, filtered_less}
 
 -- ---- words
 
@@ -221,7 +221,7 @@ offer_comes p q false o ch f e =
           λ h. given_at p q ch.next (ch.next + 1) (q == p) refl e refl (omega arith);
     }
 offer_comes p q true o ch f e =
-    let k = count_last (λ (x : Standing). x.place == p) ch.queue o in
+    let k = how_many_push (λ (x : Standing). x.place == p) ch.queue o in
     let same = same_place p q o.place f in
     record {
       queue = omega arith;
@@ -244,7 +244,7 @@ receiver_comes p q false r ch f e =
           λ h. given_at p q ch.next (ch.next + 1) (q == p) refl e refl (omega arith);
     }
 receiver_comes p q true r ch f e =
-    let k = count_last (λ (x : Receiver). x.place == p) ch.receivers r in
+    let k = how_many_push (λ (x : Receiver). x.place == p) ch.receivers r in
     let same = same_place p q r.place f in
     record {
       queue = omega arith;
@@ -341,10 +341,10 @@ counted_then : (c p : ℕ) (acts : List Act) (act : Act) (ch ch' : Channel)
     → Balance p (removes c p act) (enters c p act) (answers c p act) (awaits c p act) ch ch'
     → (admits c p act ≡ true → 1 ≤ offers_with p ch.queue) → Counted c p acts ch → Counted c p (acts ++ act ∷ []) ch'
 counted_then c p acts act ch ch' b a h =
-    let l = count_last (removes c p) acts act in
-    let e = count_last (enters c p) acts act in
-    let r = count_last (answers c p) acts act in
-    let w = count_last (awaits c p) acts act in
+    let l = how_many_push (removes c p) acts act in
+    let e = how_many_push (enters c p) acts act in
+    let r = how_many_push (answers c p) acts act in
+    let w = how_many_push (awaits c p) acts act in
     record {
       queue = omega (arith, h.queue, b.queue);
       receivers = omega (arith, h.receivers, b.receivers);

@@ -3,6 +3,7 @@ use Rattle.std.specs.Prelude.{◌≡◌, ℕ, ◌+◌, ◌≤◌, ◌==◌, Bool
 use Rattle.std.specs.List.{list_any, AllByRecursion}
 use Rattle.std.proofs.Common.{sym, ap, ◌∙◌, subst, arith, inl, inr, ⊎_elim}
 use Rattle.std.proofs.lemmas.Bool.{eqb-true}
+use Rattle.std.proofs.ByRecursion.{All-push}
 use Rattle.co_base.specs.declared.names.WaitId.{WaitId}
 use Rattle.channel_model.specs.declared.acts.Act.{Act}
 use Rattle.channel_model.specs.declared.acts.Act.TheVariants.{Hand, Put, Offer, Await, Take, Admit, Drop, Spurn, Close, Void, Drain, WakeClosed, Withdraw, Settle}
@@ -74,10 +75,6 @@ all_filter P f [] h = tt
 all_filter P f (x ∷ xs) h =
     elim (f x) as (λ b. AllByRecursion P (cond b (x ∷ filter f xs) (filter f xs)))
     [ true ↦ (h.0, all_filter P f xs h.1) | false ↦ all_filter P f xs h.1 ]
-
-all_push : {X : Type 0} (P : X → Type 0) (xs : List X) (y : X) → AllByRecursion P xs → P y → AllByRecursion P (xs ++ y ∷ [])
-all_push P [] y h k = (k, tt)
-all_push P (x ∷ xs) y h k = (h.0, all_push P xs y h.1 k)
 
 -- ---- it stays known
 
@@ -154,7 +151,7 @@ pub enters_count : (c p : ℕ) (acts : List Act) → how_many (puts c p) acts + 
 enters_count c p [] = refl
 enters_count c p (a ∷ acts) = let k = put_or_offered c p a in let m = enters_count c p acts in omega arith
 
-hand_answers : (c p : ℕ) (act : Act) → hands c p act ≡ true → answers c p act ≡ true
+pub hand_answers : (c p : ℕ) (act : Act) → hands c p act ≡ true → answers c p act ≡ true
 hand_answers c p (Hand d q v) e = e
 hand_answers c p other e = cc
 
@@ -224,7 +221,7 @@ element_placed c p acts act ch v h e f = first_last (brings c p) acts act (no_el
 offer_placed : (acts : List Act) (c : ℕ) (b : Bool) (o : Standing) (ch : Channel) → Known acts c ch → OfferKnown acts c o
     → Known acts c (place_offer b o ch)
 offer_placed acts c false o ch h k = record { offers = h.offers; receivers = h.receivers }
-offer_placed acts c true o ch h k = record { offers = all_push (OfferKnown acts c) ch.queue o h.offers k; receivers = h.receivers }
+offer_placed acts c true o ch h k = record { offers = All-push (OfferKnown acts c) ch.queue o h.offers k; receivers = h.receivers }
 
 receiver_placed : (acts : List Act) (c : ℕ) (b : Bool) (r : Receiver) (ch : Channel) → Known acts c ch → ReceiverKnown acts c r
     → Known acts c (place_receiver b r ch)
@@ -232,7 +229,7 @@ receiver_placed acts c false r ch h k = record { offers = h.offers; receivers = 
 receiver_placed acts c true r ch h k = record {
   offers = h.offers;
   receivers =
-      all_push (ReceiverKnown acts c) ch.receivers r h.receivers k;
+      All-push (ReceiverKnown acts c) ch.receivers r h.receivers k;
 }
 
 known_by : (shape : Shape) (acts : List Act) (s : State) (who : ℕ) (act : Act) → Needs shape s who act

@@ -3,7 +3,7 @@ use Rattle.std.specs.Prelude.{◌≡◌, ℕ, zero, suc, ◌+◌, ◌≤◌, ◌
 use Rattle.std.proofs.Common.{sym, ap, ◌∙◌, subst, arith}
 use Rattle.co_base.specs.declared.names.WaitId.{WaitId}
 use Rattle.channel_model.specs.declared.acts.Act.{Act}
-use Rattle.channel_model.specs.declared.acts.Act.TheVariants.{Hand, Put, Offer, Await, Take, Admit, Drop, Spurn, Close, Void, Drain, WakeClosed, Withdraw, Settle}
+use Rattle.channel_model.specs.declared.acts.Act.TheVariants.{Put, Offer, Await, Take, Admit, Drop, Spurn, Close, Void, Drain, Withdraw, Settle}
 use Rattle.channel_model.specs.declared.acts.Entry.{Entry}
 use Rattle.channel_model.specs.declared.standing.Party.{Party}
 use Rattle.channel_model.specs.declared.standing.Standing.{Standing}
@@ -21,7 +21,7 @@ use Rattle.channel_model.proofs.Placed.{Placed, placed_after, start_placed}
 
 -- ---- counting what passes
 
-kept_less : {X : Type 0} (p : X → Bool) (x : X) (xs ys : List X) (b : Bool) → how_many p xs ≤ how_many p ys
+pub kept_less : {X : Type 0} (p : X → Bool) (x : X) (xs ys : List X) (b : Bool) → how_many p xs ≤ how_many p ys
     → how_many p (cond b (x ∷ xs) xs) ≤ cond (p x) 1 0 + how_many p ys
 kept_less p x xs ys true h = omega arith
 kept_less p x xs ys false h = omega arith
@@ -108,7 +108,7 @@ freed_less : (w : WaitId) (o : Standing) (os rest : List Standing) (b : Bool)
 freed_less w o os rest true h = omega arith
 freed_less w o os rest false h = omega arith
 
-admitted_less : (w : WaitId) (p : ℕ) (os : List Standing)
+pub admitted_less : (w : WaitId) (p : ℕ) (os : List Standing)
     → how_many (λ (o : Standing). is_held_by w o.holder) (admitted p os) ≤ how_many (λ (o : Standing). is_held_by w o.holder) os
 admitted_less w p [] = omega arith
 admitted_less w p (o ∷ os) = freed_less w o os (admitted p os) (o.place == p) (admitted_less w p os)
@@ -217,7 +217,6 @@ named_alone who k c p places w s o h place may v e =
 
 after_once : (shape : Shape) (s : State) (who : ℕ) (act : Act) → Needs shape s who act → AllStandOpen s → Placed s → AllStandOnce s
     → AllStandOnce (after s who act)
-after_once shape s who (Hand c p v) n o g h = first_once _ _ s h
 after_once shape s who (Put c p v) n o g h = put_once c _ s h
     (offer_placed_once true (record { place = p; value = v; holder = None }) (s.channels c) (h c) (λ u e. cc))
 after_once shape s who (Offer c p v w k) n o g h =
@@ -235,9 +234,9 @@ after_once shape s who (Spurn c p v) n o g h = spurned_once c p s h
 after_once shape s who (Close c v) n o g h = put_once c _ s h (record { once = (h c).once })
 after_once shape s who (Void c) n o g h = put_once c _ s h (record { once = (h c).once })
 after_once shape s who (Drain c p v) n o g h = resolve_offer_once c _ _ s refl h
-after_once shape s who (WakeClosed c p) n o g h = first_once _ _ s h
 after_once shape s who (Withdraw w why) n o g h = resolve_once w (resolved.Withdrawn why) s h
 after_once shape s who (Settle w outcome) n o g h = h
+after_once shape s who other n o g h = first_once _ _ s h
 
 from_once : (shape : Shape) (s : State) (es : List Entry) → LegalFrom shape s es → AllStandOpen s → Placed s → AllStandOnce s
     → AllStandOnce (replay_from s es)

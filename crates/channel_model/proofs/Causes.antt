@@ -4,7 +4,7 @@ use Rattle.std.proofs.Common.{sym, ap, ◌∙◌, arith, inl, inr, ⊎_elim}
 use Rattle.std.proofs.lemmas.Bool.{true≢false}
 use Rattle.co_base.specs.declared.names.WaitId.{WaitId}
 use Rattle.channel_model.specs.declared.acts.Act.{Act}
-use Rattle.channel_model.specs.declared.acts.Act.TheVariants.{Hand, Put, Offer, Await, Take, Admit, Drop, Spurn, Close, Void, Drain, WakeClosed, Withdraw, Settle}
+use Rattle.channel_model.specs.declared.acts.Act.TheVariants.{Hand, Offer, Await, Take, Admit, Drop, Drain, WakeClosed, Withdraw, Settle}
 use Rattle.channel_model.specs.declared.acts.Settled.{Settled}
 use Rattle.channel_model.specs.declared.standing.Party.{Party}
 use Rattle.channel_model.specs.declared.standing.Standing.{Standing}
@@ -75,20 +75,17 @@ settled_resolution outcome (Some x) = refl
 pub resolution_kept : (s : State) (who : ℕ) (act : Act) (v : WaitId)
     → (resolution_of ((after s who act).waits v) ≡ resolution_of (s.waits v)) ⊎ (resolves s act ≡ Some v)
 resolution_kept s who (Hand c p x) v = first_resolves v (s.channels c).receivers _ s
-resolution_kept s who (Put c p x) v = inl refl
 resolution_kept s who (Offer c p x w k) v = inl (one_leaves resolution_of w v (name_clause who k c) s.waits (named_resolution who k c))
 resolution_kept s who (Await c p w k) v = inl (one_leaves resolution_of w v (name_clause who k c) s.waits (named_resolution who k c))
 resolution_kept s who (Take c p x) v = offer_resolves v c (s.channels c).queue _ s
 resolution_kept s who (Admit c p) v = holder_resolves v (holder_at p (s.channels c).queue) _
     (with_queue c (admitted p (s.channels c).queue) s)
 resolution_kept s who (Drop c p x) v = inl (remove_leaves resolution_of v c (s.channels c).queue s)
-resolution_kept s who (Spurn c p x) v = inl refl
-resolution_kept s who (Close c x) v = inl refl
-resolution_kept s who (Void c) v = inl refl
 resolution_kept s who (Drain c p x) v = offer_resolves v c (s.channels c).queue _ s
 resolution_kept s who (WakeClosed c p) v = first_resolves v (s.channels c).receivers _ s
 resolution_kept s who (Withdraw w why) v = one_resolves w v _ s.waits
 resolution_kept s who (Settle w outcome) v = inl (one_leaves resolution_of w v (settled_wait outcome) s.waits (settled_resolution outcome))
+resolution_kept s who other v = inl refl
 
 resolved_same : (x y : Option Wait) → resolution_of x ≡ resolution_of y → IsResolvedWait x → IsResolvedWait y
 resolved_same None None e h = h
@@ -145,19 +142,16 @@ one_ends w v x waits = by_test (same_wait w v) refl
 end_kept : (s : State) (who : ℕ) (act : Act) (v : WaitId) → (has_ended ((after s who act).waits v) ≡ has_ended (s.waits v))
     ⊎ (settles act ≡ Some v)
 end_kept s who (Hand c p x) v = inl (first_end v (s.channels c).receivers _ s)
-end_kept s who (Put c p x) v = inl refl
 end_kept s who (Offer c p x w k) v = inl (one_leaves has_ended w v (name_clause who k c) s.waits (named_end who k c))
 end_kept s who (Await c p w k) v = inl (one_leaves has_ended w v (name_clause who k c) s.waits (named_end who k c))
 end_kept s who (Take c p x) v = inl (offer_end v c (s.channels c).queue _ s)
 end_kept s who (Admit c p) v = inl (holder_end v (holder_at p (s.channels c).queue) _ (with_queue c (admitted p (s.channels c).queue) s))
 end_kept s who (Drop c p x) v = inl (remove_leaves has_ended v c (s.channels c).queue s)
-end_kept s who (Spurn c p x) v = inl refl
-end_kept s who (Close c x) v = inl refl
-end_kept s who (Void c) v = inl refl
 end_kept s who (Drain c p x) v = inl (offer_end v c (s.channels c).queue _ s)
 end_kept s who (WakeClosed c p) v = inl (first_end v (s.channels c).receivers _ s)
 end_kept s who (Withdraw w why) v = inl (resolve_end v w (resolved.Withdrawn why) s)
 end_kept s who (Settle w outcome) v = one_ends w v _ s.waits
+end_kept s who other v = inl refl
 
 settled_same : (x y : Option Wait) → has_ended x ≡ has_ended y → IsSettledWait x → IsSettledWait y
 settled_same None y e h = absurd h
@@ -184,7 +178,7 @@ pub ended_is : (x : Option Wait) → (has_ended x ≡ true) ↔ IsSettledWait x
 ended_is None = (λ e. cc, λ h. absurd h)
 ended_is (Some x) = (λ e. e, λ h. h)
 
-same_truth : (b b' : Bool) → (b ≡ true → b' ≡ true) → (b' ≡ true → b ≡ true) → b ≡ b'
+pub same_truth : (b b' : Bool) → (b ≡ true → b' ≡ true) → (b' ≡ true → b ≡ true) → b ≡ b'
 same_truth true b' f g = sym (f refl)
 same_truth false true f g = g refl
 same_truth false false f g = refl

@@ -16,6 +16,7 @@ use Rattle.channel_model.specs.Laws.{how_many, is_select_clause, ClausesFit}
 use Rattle.channel_model.proofs.Elements.{all_push, all_first, all_rest}
 use Rattle.channel_model.proofs.EveryAct.{WaitKeeps, after_waits}
 use Rattle.channel_model.proofs.Sound.{lasts_from, sound_start}
+use Rattle.channel_model.proofs.Apart.{how_many_push}
 
 -- ---- distinct numbers 1 to 7 are at most seven
 
@@ -38,10 +39,6 @@ seven_numbers (x ∷ xs) h =
 
 -- ---- one clause more
 
-count_push : {X : Type 0} (f : X → Bool) (xs : List X) (y : X) → how_many f (xs ++ y ∷ []) ≡ how_many f xs + cond (f y) 1 0
-count_push f [] y = omega arith
-count_push f (x ∷ xs) y = let k = count_push f xs y in omega arith
-
 none_counted : {X : Type 0} (f : X → Bool) (xs : List X) → list_any f xs ≡ false → how_many f xs ≡ 0
 none_counted f [] e = refl
 none_counted f (x ∷ xs) e =
@@ -55,9 +52,9 @@ one_more : (f : ℕ × ℕ → Bool) (xs : List (ℕ × ℕ)) (y : ℕ × ℕ) �
 one_more f xs y h fresh = by_test (f y) refl
   where
     by_test : (b : Bool) → f y ≡ b → how_many f (xs ++ y ∷ []) ≤ 1
-    by_test true e = let n = none_counted f xs (fresh e) in let m = count_push f xs y
+    by_test true e = let n = none_counted f xs (fresh e) in let m = how_many_push f xs y
         in let one : ◌≡◌ {A = ℕ} (cond (f y) 1 0) 1 = ap (λ b. cond b 1 0) e in omega arith
-    by_test false e = let m = count_push f xs y in let none : ◌≡◌ {A = ℕ} (cond (f y) 1 0) 0 = ap (λ b. cond b 1 0) e in omega arith
+    by_test false e = let m = how_many_push f xs y in let none : ◌≡◌ {A = ℕ} (cond (f y) 1 0) 0 = ap (λ b. cond b 1 0) e in omega arith
 
 at_number : (k j : ℕ) (xs : List (ℕ × ℕ)) → (k == j) ≡ true → list_any (λ (y : ℕ × ℕ). y.0 == k) xs ≡ false
     → list_any (λ (y : ℕ × ℕ). y.0 == j) xs ≡ false

@@ -2,7 +2,7 @@
 use Rattle.std.specs.Prelude.{◌≡◌, Bool, true, false, ◌&&◌, cond, List, [], ◌∷◌, ◌++◌, filter, refl}
 use Rattle.std.specs.List.{list_all}
 use Rattle.std.proofs.Common.{sym, ap, ◌∙◌}
-use Rattle.std.proofs.lemmas.Bool.{true≢false}
+use Rattle.std.proofs.lemmas.Bool.{true≢false, and_parts}
 
 pub all_filter : {X : Type 0} (p q : X → Bool) (xs : List X) → list_all p xs ≡ true → list_all p (filter q xs) ≡ true
 all_filter p q [] h = refl
@@ -15,18 +15,10 @@ all_filter p q (x ∷ xs) h = by_test (λ h. all_filter p q xs h) (p x) (q x) re
     by_test rest false b e h = absurd (true≢false (sym h))
 
 pub all_rest : {X : Type 0} (p : X → Bool) (x : X) (xs : List X) → list_all p (x ∷ xs) ≡ true → list_all p xs ≡ true
-all_rest p x xs h = by_test (p x) h
-  where
-    by_test : (a : Bool) → (a && list_all p xs) ≡ true → list_all p xs ≡ true
-    by_test true h = h
-    by_test false h = cc
+all_rest p x xs h = (and_parts (p x) _ h).1
 
 pub all_first : {X : Type 0} (p : X → Bool) (x : X) (xs : List X) → list_all p (x ∷ xs) ≡ true → p x ≡ true
-all_first p x xs h = by_test (p x) h
-  where
-    by_test : (a : Bool) → (a && list_all p xs) ≡ true → a ≡ true
-    by_test true h = refl
-    by_test false h = cc
+all_first p x xs h = (and_parts (p x) _ h).0
 
 pub all_more : {X : Type 0} (p : X → Bool) (x : X) (xs : List X) → p x ≡ true → list_all p xs ≡ true → list_all p (x ∷ xs) ≡ true
 all_more p x xs e h = ap (λ (t : Bool). t && list_all p xs) e ∙ h

@@ -143,17 +143,14 @@ module _ (P : Option Wait → Type 0) (k : WaitKeeps P) where
   pub after_waits : (shape : Shape) (s : State) (who : ℕ) (act : Act) (v : WaitId) → Placed s → Needs shape s who act → P (s.waits v)
       → P ((after s who act).waits v)
   after_waits shape s who (Hand c p x) v placed n h = first_waits v (s.channels c).receivers _ s h
-  after_waits shape s who (Put c p x) v placed n h = h
   after_waits shape s who (Offer c p x w j) v placed n h = named_waits who j c p (places_at shape c) w v s placed n.1 n.4 h
   after_waits shape s who (Await c p w j) v placed n h = named_waits who j c p (places_at shape c) w v s placed n.1 n.3 h
   after_waits shape s who (Take c p x) v placed n h = offer_waits v c (s.channels c).queue _ s h
   after_waits shape s who (Admit c p) v placed n h = holder_waits v (holder_at p (s.channels c).queue) _
       (with_queue c (admitted p (s.channels c).queue) s) h
   after_waits shape s who (Drop c p x) v placed n h = removed_waits v c (s.channels c).queue s h
-  after_waits shape s who (Spurn c p x) v placed n h = h
-  after_waits shape s who (Close c x) v placed n h = h
-  after_waits shape s who (Void c) v placed n h = h
   after_waits shape s who (Drain c p x) v placed n h = offer_waits v c (s.channels c).queue _ s h
   after_waits shape s who (WakeClosed c p) v placed n h = first_waits v (s.channels c).receivers _ s h
   after_waits shape s who (Withdraw w why) v placed n h = resolve_waits v w _ s h
   after_waits shape s who (Settle w outcome) v placed n h = settled_waits who outcome w v s n h
+  after_waits shape s who other v placed n h = h

@@ -1,8 +1,8 @@
 -- Who is gone from a channel never stands there again.
-use Rattle.std.specs.Prelude.{◌≡◌, ℕ, ◌≤◌, ◌==◌, nat_le, Bool, true, false, not, List, [], ◌∷◌, ◌++◌, None, refl, if◌then◌else◌}
+use Rattle.std.specs.Prelude.{◌≡◌, ℕ, ◌==◌, nat_le, Bool, true, false, not, List, [], ◌∷◌, ◌++◌, None, refl, if◌then◌else◌}
 use Rattle.std.specs.List.{list_all}
 use Rattle.std.proofs.Common.{ap, subst, arith, ne_eqb}
-use Rattle.std.proofs.lemmas.Bool.Decides.{nat_tests}
+use Rattle.std.proofs.lemmas.Bool.{le-leb}
 use Rattle.channel_model.specs.declared.standing.Standing.{Standing}
 use Rattle.channel_model.specs.declared.standing.Receiver.{Receiver}
 use Rattle.channel_model.specs.Channels.{Shape, Channel, same_wait, places_at}
@@ -14,9 +14,6 @@ use Rattle.channel_model.specs.Laws.{NoneBelow, NoOffer}
 use Rattle.channel_model.proofs.Elements.{all_filter, all_rest, all_first, all_more, all_push}
 use Rattle.channel_model.proofs.EveryAct.{ChannelKeeps}
 use Rattle.channel_model.proofs.Sound.{channel_lasts}
-
-at_least : (n m : ℕ) → n ≤ m → nat_le n m ≡ true
-at_least n m h = grind (arith, nat_tests)
 
 -- an admission moves no offer
 admitted_all : (f : ℕ → Bool) (p : ℕ) (os : List Standing) → list_all (λ (o : Standing). f o.place) os ≡ true
@@ -45,7 +42,7 @@ offer_below n m p places true o ch h e x = record {
   given_offers = let g = x.given_offers in omega arith;
   receivers = x.receivers;
   offers = all_push (λ (o : Standing). nat_le m o.place) ch.queue o x.offers
-      (at_least m o.place (let g = x.given_offers in let f = h.first in omega arith));
+      (le-leb m o.place (let g = x.given_offers in let f = h.first in omega arith));
 }
 
 receiver_below : (n m p places : ℕ) (b : Bool) (r : Receiver) (ch : Channel) → HasPlace places p ch → r.place ≡ p → NoneBelow n m ch
@@ -61,7 +58,7 @@ receiver_below n m p places true r ch h e x = record {
   given = let g = x.given in omega arith;
   given_offers = let g = x.given_offers in omega arith;
   receivers = all_push (λ (r : Receiver). nat_le n r.place) ch.receivers r x.receivers
-      (at_least n r.place (let g = x.given in let f = h.first in omega arith));
+      (le-leb n r.place (let g = x.given in let f = h.first in omega arith));
   offers = x.offers;
 }
 

@@ -2,7 +2,7 @@
 use Rattle.std.proofs.Common.{◌≡◌, ◌≢◌, ℕ, ◌≤◌, Bool, true, false, List, [], ◌∷◌, if◌then◌else◌, Option, Some, None, MatchBool, sym, refl, ◌∙◌, subst, arith}
 use Rattle.co_base.specs.declared.names.WaitId.{WaitId}
 use Rattle.channel_model.specs.declared.acts.Act.{Act}
-use Rattle.channel_model.specs.declared.acts.Act.TheVariants.{Hand, Put, Offer, Await, Take, Admit, Drop, Spurn, Close, Void, Drain, WakeClosed, Withdraw, Settle}
+use Rattle.channel_model.specs.declared.acts.Act.TheVariants.{Hand, Offer, Await, Take, Admit, Drop, Drain, WakeClosed, Withdraw, Settle}
 use Rattle.channel_model.specs.declared.acts.Settled.{Settled}
 use Rattle.channel_model.specs.declared.standing.Party.{Party}
 use Rattle.channel_model.specs.declared.standing.Standing.{Standing}
@@ -51,7 +51,7 @@ join_removed : (who k c : ℕ) (w : WaitId) (d : ℕ) (q : List Standing) (s : S
 join_removed who k c w d [] s h = h
 join_removed who k c w d (o ∷ os) s h = h
 
-not_absent : (who k c : ℕ) (x : Option Wait) → x ≡ None → JoinsWait who k c x → ⊥
+pub not_absent : (who k c : ℕ) (x : Option Wait) → x ≡ None → JoinsWait who k c x → ⊥
 not_absent who k c None e h = h
 not_absent who k c (Some x) e h = cc
 
@@ -94,16 +94,13 @@ join_settled who k c n outcome w u s ne m h = by_test (same_wait u w) refl
 pub join_step : (shape : Shape) (who k c n : ℕ) (w : WaitId) (s : State) (act : Act) → n ≢ who → Placed s → Needs shape s n act
     → JoinsWait who k c (s.waits w) → JoinsWait who k c ((after s n act).waits w)
 join_step shape who k c n w s (Hand d p v) ne pl m h = join_first who k c w _ _ s h
-join_step shape who k c n w s (Put d p v) ne pl m h = h
 join_step shape who k c n w s (Offer d p v u j) ne pl m h = join_named who k c n j d p (places_at shape d) w u s ne pl m.1 m.4 h
 join_step shape who k c n w s (Await d p u j) ne pl m h = join_named who k c n j d p (places_at shape d) w u s ne pl m.1 m.3 h
 join_step shape who k c n w s (Take d p v) ne pl m h = join_offer who k c w d _ _ s h
 join_step shape who k c n w s (Admit d p) ne pl m h = join_holder who k c w (holder_at p (s.channels d).queue) _ _ h
 join_step shape who k c n w s (Drop d p v) ne pl m h = join_removed who k c w d _ s h
-join_step shape who k c n w s (Spurn d p v) ne pl m h = h
-join_step shape who k c n w s (Close d v) ne pl m h = h
-join_step shape who k c n w s (Void d) ne pl m h = h
 join_step shape who k c n w s (Drain d p v) ne pl m h = join_offer who k c w d _ _ s h
 join_step shape who k c n w s (WakeClosed d p) ne pl m h = join_first who k c w _ _ s h
 join_step shape who k c n w s (Withdraw u why) ne pl m h = join_resolve who k c w u _ s h
 join_step shape who k c n w s (Settle u outcome) ne pl m h = join_settled who k c n outcome w u s ne m h
+join_step shape who k c n w s other ne pl m h = h

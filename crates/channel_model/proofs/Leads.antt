@@ -3,8 +3,9 @@ use Rattle.std.specs.Prelude.{◌≡◌, ℕ, zero, suc, ◌+◌, ◌≤◌, ◌
 use Rattle.std.specs.List.{list_all}
 use Rattle.std.proofs.Common.{sym, ap, ◌∙◌, subst, arith}
 use Rattle.std.proofs.lemmas.Bool.Decides.{nat_tests}
+use Rattle.std.proofs.lemmas.Bool.{le-ltb}
 use Rattle.channel_model.specs.declared.acts.Kind.{Kind}
-use Rattle.channel_model.specs.declared.acts.Kind.TheVariants.{Rendezvous, Buffered, Unlimited, Conflated, DropOldest, DropLatest, Signal}
+use Rattle.channel_model.specs.declared.acts.Kind.TheVariants.{Rendezvous, Buffered, Signal}
 use Rattle.channel_model.specs.declared.standing.Standing.{Standing}
 use Rattle.channel_model.specs.Channels.{is_full}
 use Rattle.channel_model.specs.Effects.{admitted, holder_at}
@@ -15,11 +16,8 @@ use Rattle.channel_model.proofs.InOrder.{OffersAscend}
 full_more : (kind : Kind) (n : ℕ) → is_full kind n ≡ true → is_full kind (n + 1) ≡ true
 full_more Rendezvous n h = refl
 full_more (Buffered k) n h = grind (arith, nat_tests)
-full_more Unlimited n h = cc
-full_more Conflated n h = cc
-full_more (DropOldest k) n h = cc
-full_more (DropLatest k) n h = cc
 full_more Signal n h = refl
+full_more other n h = cc
 
 none_here : (a b f r : Bool) → (b && not f) ≡ false → r ≡ false → ((a && (b && not f)) || r) ≡ false
 none_here true b f r h k = ap (λ x. x || r) h ∙ k
@@ -41,11 +39,8 @@ pub above_owes : (kind : Kind) (mark p next n : ℕ) (os : List Standing) → ma
     → owes_admission_below kind mark n os ≡ false
 above_owes kind mark p next n [] h a = refl
 above_owes kind mark p next n (o ∷ os) h a = none_here (is_some o.holder) (nat_lt o.place mark) (is_full kind n) _
-    (ap (λ b. b && not (is_full kind n)) (not_less o.place mark (let k = a.0 in omega arith)))
+    (ap (λ b. b && not (is_full kind n)) (le-ltb o.place mark (let k = a.0 in omega arith)))
     (above_owes kind mark (o.place + 1) next (n + 1) os (let k = a.0 in omega arith) a.1)
-  where
-    not_less : (x m : ℕ) → m ≤ x → nat_lt x m ≡ false
-    not_less x m h = grind (arith, nat_tests)
 
 -- buffered offers that lead are owed nothing
 pub skip_leading : (kind : Kind) (mark k n : ℕ) (q : List Standing) → list_all is_buffered (take n q) ≡ true → n ≤ length q

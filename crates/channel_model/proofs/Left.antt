@@ -5,7 +5,7 @@ use Rattle.std.proofs.Common.{sym, ap, ◌∙◌, subst, arith}
 use Rattle.co_base.specs.declared.names.WaitId.{WaitId}
 use Rattle.channel_model.specs.declared.acts.Kind.{Kind}
 use Rattle.channel_model.specs.declared.acts.Act.{Act}
-use Rattle.channel_model.specs.declared.acts.Act.TheVariants.{Hand, Put, Offer, Await, Take, Admit, Drop, Spurn, Close, Void, Drain, WakeClosed, Withdraw, Settle}
+use Rattle.channel_model.specs.declared.acts.Act.TheVariants.{Admit, Drop, Drain, WakeClosed}
 use Rattle.channel_model.specs.declared.acts.Entry.{Entry}
 use Rattle.channel_model.specs.declared.standing.Party.{Party}
 use Rattle.channel_model.specs.declared.standing.Standing.{Standing}
@@ -122,20 +122,11 @@ left_keeps shape n = record {
 
 -- the channel from which the act removes something
 abbrev pub removes_from : Act → Option ℕ
-removes_from (Hand c p v) = None
-removes_from (Put c p v) = None
-removes_from (Offer c p v w k) = None
-removes_from (Await c p w k) = None
-removes_from (Take c p v) = None
 removes_from (Admit c p) = Some c
 removes_from (Drop c p v) = Some c
-removes_from (Spurn c p v) = None
-removes_from (Close c v) = None
-removes_from (Void c) = None
 removes_from (Drain c p v) = Some c
 removes_from (WakeClosed c p) = Some c
-removes_from (Withdraw w why) = None
-removes_from (Settle w outcome) = None
+removes_from other = None
 
 queue_lower : (shape : Shape) (c : ℕ) (queue : List Standing) (s : State)
     → left (places_at shape c) (record (s.channels c) { queue = queue }) < left (places_at shape c) (s.channels c)
@@ -182,11 +173,6 @@ first_lower shape c p (r ∷ rs) how s e h = omega (
 
 after_lower : (shape : Shape) (s : State) (who c : ℕ) (act : Act) → Needs shape s who act → removes_from act ≡ Some c
     → left (places_at shape c) ((after s who act).channels c) < left (places_at shape c) (s.channels c)
-after_lower shape s who c (Hand d p v) n e = cc
-after_lower shape s who c (Put d p v) n e = cc
-after_lower shape s who c (Offer d p v w k) n e = cc
-after_lower shape s who c (Await d p w k) n e = cc
-after_lower shape s who c (Take d p v) n e = cc
 after_lower shape s who c (Admit d p) n e =
     let is : d ≡ c = cc in
     subst (λ x. left (places_at shape x) ((after s who (Admit d p)).channels x) < left (places_at shape x) (s.channels x)) is
@@ -200,9 +186,6 @@ after_lower shape s who c (Drop d p v) n e =
     let is : d ≡ c = cc in
     subst (λ x. left (places_at shape x) ((after s who (Drop d p v)).channels x) < left (places_at shape x) (s.channels x)) is
     (remove_lower shape d p v (s.channels d).queue s refl n.2)
-after_lower shape s who c (Spurn d p v) n e = cc
-after_lower shape s who c (Close d v) n e = cc
-after_lower shape s who c (Void d) n e = cc
 after_lower shape s who c (Drain d p v) n e =
     let is : d ≡ c = cc in
     subst (λ x. left (places_at shape x) ((after s who (Drain d p v)).channels x) < left (places_at shape x) (s.channels x)) is
@@ -211,8 +194,7 @@ after_lower shape s who c (WakeClosed d p) n e =
     let is : d ≡ c = cc in
     subst (λ x. left (places_at shape x) ((after s who (WakeClosed d p)).channels x) < left (places_at shape x) (s.channels x)) is
     (first_lower shape d p (s.channels d).receivers _ s refl n.2)
-after_lower shape s who c (Withdraw w why) n e = cc
-after_lower shape s who c (Settle w outcome) n e = cc
+after_lower shape s who c other n e = cc
 
 -- ---- over histories
 

@@ -3,7 +3,7 @@ use Rattle.std.specs.Prelude.{ℕ, ◌==◌, ◌+◌, Bool, true, false, List, [
 use Rattle.std.specs.Coded.{×_prop, Unit-prop}
 use Rattle.std.proofs.Props.{props}
 use Rattle.channel_model.specs.declared.acts.Act.{Act}
-use Rattle.channel_model.specs.declared.acts.Act.TheVariants.{Hand, Put, Offer, Await, Take, Admit, Drop, Spurn, Close, Void, Drain, WakeClosed, Withdraw, Settle}
+use Rattle.channel_model.specs.declared.acts.Act.TheVariants.{Hand, Offer, Await, Take, Admit, Drop, Spurn, Drain, WakeClosed, Withdraw, Settle}
 use Rattle.channel_model.specs.declared.acts.Entry.{Entry}
 use Rattle.channel_model.specs.declared.acts.Settled.{Settled}
 use Rattle.channel_model.specs.declared.acts.Settled.TheVariants as settled
@@ -61,19 +61,17 @@ MaySettle-prop who outcome (Some x) = hlevel (props, IsOutcome-prop)
 
 Needs-prop : (shape : Shape) (s : State) (who : ℕ) (act : Act) → IsProp (Needs shape s who act)
 Needs-prop shape s who (Hand c p v) = hlevel (props, IsFirstReceiver-prop)
-Needs-prop shape s who (Put c p v) = hlevel props
 Needs-prop shape s who (Offer c p v w k) = hlevel (props, MayName-prop)
 Needs-prop shape s who (Await c p w k) = hlevel (props, MayName-prop)
 Needs-prop shape s who (Take c p v) = hlevel (props, IsFirstOffer-prop)
 Needs-prop shape s who (Admit c p) = hlevel (props, MayBeAdmitted-prop)
 Needs-prop shape s who (Drop c p v) = hlevel (props, IsFirstOffer-prop)
 Needs-prop shape s who (Spurn c p v) = hlevel (props, IsOfferAt-prop)
-Needs-prop shape s who (Close c v) = hlevel props
-Needs-prop shape s who (Void c) = hlevel props
 Needs-prop shape s who (Drain c p v) = hlevel (props, IsFirstOffer-prop)
 Needs-prop shape s who (WakeClosed c p) = hlevel (props, IsFirstReceiver-prop)
 Needs-prop shape s who (Withdraw w why) = IsOpenOf-prop who (s.waits w)
 Needs-prop shape s who (Settle w outcome) = MaySettle-prop who outcome (s.waits w)
+Needs-prop shape s who other = hlevel props
 
 pub LegalFrom-prop : (shape : Shape) (s : State) (es : List Entry) → IsProp (LegalFrom shape s es)
 unfolding LegalFrom

@@ -4,7 +4,7 @@ use Rattle.std.specs.List.{list_any}
 use Rattle.std.proofs.Common.{sym, ap, ◌∙◌, subst, arith, eqb-true}
 use Rattle.co_base.specs.declared.names.WaitId.{WaitId}
 use Rattle.channel_model.specs.declared.acts.Act.{Act}
-use Rattle.channel_model.specs.declared.acts.Act.TheVariants.{Hand, Put, Offer, Await, Take, Admit, Drop, Spurn, Close, Void, Drain, WakeClosed, Withdraw, Settle}
+use Rattle.channel_model.specs.declared.acts.Act.TheVariants.{Hand, Offer, Await, Take, Admit, Drop, Drain, WakeClosed, Withdraw, Settle}
 use Rattle.channel_model.specs.declared.acts.Settled.{Settled}
 use Rattle.channel_model.specs.declared.standing.Party.{Party}
 use Rattle.channel_model.specs.declared.standing.Standing.{Standing}
@@ -124,21 +124,18 @@ pub waits_on : (shape : Shape) (c : ℕ) (closed : ℕ → Type 0) (w : WaitId) 
     → Needs shape s who act → ((p : ℕ) → act ≡ WakeClosed c p → closed (close_value (s.channels c).closed)) → IsOn c closed (s.waits w)
     → IsOn c closed ((after s who act).waits w)
 waits_on shape c closed w s who (Hand d p v) l n woken h = first_on c _ w d (s.channels d).receivers _ s (l.stand d).receivers (λ e m. tt) h
-waits_on shape c closed w s who (Put d p v) l n woken h = h
 waits_on shape c closed w s who (Offer d p v u k) l n woken h = named_on c _ who k d p u w s l.placed (sym n.1.first) n.4 h
 waits_on shape c closed w s who (Await d p u k) l n woken h = named_on c _ who k d p u w s l.placed (sym n.1.first) n.3 h
 waits_on shape c closed w s who (Take d p v) l n woken h = offer_on c _ w d (s.channels d).queue _ s (λ m. tt) h
 waits_on shape c closed w s who (Admit d p) l n woken h = holder_on c _ w (holder_at p (s.channels d).queue) _
     (with_queue d (admitted p (s.channels d).queue) s) (λ m. tt) h
 waits_on shape c closed w s who (Drop d p v) l n woken h = removed_on c _ w d (s.channels d).queue s h
-waits_on shape c closed w s who (Spurn d p v) l n woken h = h
-waits_on shape c closed w s who (Close d v) l n woken h = h
-waits_on shape c closed w s who (Void d) l n woken h = h
 waits_on shape c closed w s who (Drain d p v) l n woken h = offer_on c _ w d (s.channels d).queue _ s (λ m. tt) h
 waits_on shape c closed w s who (WakeClosed d p) l n woken h = first_on c _ w d (s.channels d).receivers _ s (l.stand d).receivers
     (λ e m. subst (λ i. closed (close_value (s.channels i).closed)) e (woken p (ap (λ i. WakeClosed i p) (sym e)))) h
 waits_on shape c closed w s who (Withdraw u why) l n woken h = resolve_on c _ w u _ s (λ e. tt) h
 waits_on shape c closed w s who (Settle u outcome) l n woken h = settled_on c _ outcome u w s h
+waits_on shape c closed w s who other l n woken h = h
 
 weaker : (a b : ℕ → Type 0) (o : Option Resolution) → ((v : ℕ) → a v → b v) → ClosedIf a o → ClosedIf b o
 weaker a b (Some (resolved.Closed n v)) f h = f v h

@@ -4,7 +4,7 @@ use Rattle.std.proofs.Common.{ap, subst, arith}
 use Rattle.std.proofs.lemmas.Bool.{eqb-true}
 use Rattle.co_base.specs.declared.names.WaitId.{WaitId}
 use Rattle.channel_model.specs.declared.acts.Act.{Act}
-use Rattle.channel_model.specs.declared.acts.Act.TheVariants.{Hand, Put, Offer, Await, Take, Admit, Drop, Spurn, Close, Void, Drain, WakeClosed, Withdraw, Settle}
+use Rattle.channel_model.specs.declared.acts.Act.TheVariants.{Hand, Put, Offer, Await, Take, Admit, Drop, Spurn, Close, Void, Drain, WakeClosed}
 use Rattle.channel_model.specs.declared.acts.Entry.{Entry}
 use Rattle.channel_model.specs.declared.standing.Party.{Party}
 use Rattle.channel_model.specs.declared.standing.Standing.{Standing}
@@ -179,8 +179,7 @@ act_ends shape s who (Close d v) c n = closing d c v s n.1
 act_ends shape s who (Void d) c n = voiding d c s n.2
 act_ends shape s who (Drain d p v) c n = offer_ends d c (s.channels d).queue _ s
 act_ends shape s who (WakeClosed d p) c n = first_ends c (s.channels d).receivers _ s
-act_ends shape s who (Withdraw w why) c n = as_open (s.channels c) _ refl refl
-act_ends shape s who (Settle w outcome) c n = as_open (s.channels c) _ refl refl
+act_ends shape s who other c n = as_open (s.channels c) _ refl refl
 
 ends_add : (shape : Shape) (c : ℕ) (s : State) (es : List Entry) → LegalFrom shape s es
     → (◌≡◌ {A = ℕ} (cond (is_some ((replay_from s es).channels c).closed) 1 0)

@@ -2,7 +2,7 @@
 use Rattle.std.specs.Prelude.{◌≡◌, ℕ, ◌==◌, Bool, true, false, not, cond, is_none, ◌||◌, List, [], ◌∷◌, ◌++◌, filter, Option, Some, None, refl, if◌then◌else◌}
 use Rattle.std.specs.List.{list_any}
 use Rattle.std.proofs.Common.{sym, ap, ◌∙◌, subst, arith}
-use Rattle.std.proofs.lemmas.Bool.{eqb-true}
+use Rattle.std.proofs.lemmas.Bool.{eqb-true, or_right}
 use Rattle.std.proofs.lemmas.List.Folds.{list_any-append}
 use Rattle.std.proofs.lemmas.Bool.Decides.{nat_tests}
 use Rattle.channel_model.specs.declared.acts.Act.{Act}
@@ -167,13 +167,9 @@ names_more c y xs e = list_any-append (λ (z : ℕ × ℕ). z.1 == c) xs (y ∷ 
 here : (c : ℕ) → ((c == c) || false) ≡ true
 here c = grind (arith, nat_tests)
 
-or_true : (b : Bool) → (b || true) ≡ true
-or_true true = refl
-or_true false = refl
-
 names_last : (c k : ℕ) (xs : List (ℕ × ℕ)) → list_any (λ (z : ℕ × ℕ). z.1 == c) (xs ++ (k, c) ∷ []) ≡ true
 names_last c k xs = list_any-append (λ (z : ℕ × ℕ). z.1 == c) xs ((k, c) ∷ [])
-    ∙ ap (λ b. list_any (λ (z : ℕ × ℕ). z.1 == c) xs || b) (here c) ∙ or_true (list_any (λ (z : ℕ × ℕ). z.1 == c) xs)
+    ∙ ap (λ b. list_any (λ (z : ℕ × ℕ). z.1 == c) xs || b) (here c) ∙ or_right (list_any (λ (z : ℕ × ℕ). z.1 == c) xs) true refl
 
 -- a clause more keeps what stands
 named_stands : (who k c d : ℕ) (x : Option Wait) → IsStandingAt d x → IsStandingAt d (name_clause who k c x)

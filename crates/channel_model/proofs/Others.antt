@@ -91,11 +91,11 @@ others_from shape who P y v s (e ∷ es) l n h =
     let m = none_own who e es (e.who == who) refl n in
     others_from shape who P y v (after s e.who e.act) es l.1 m.1 (other_keeps shape who P y e.who v s e.act m.0 l.0 h)
 
-nothing_left : {A : Type 0} (xs ys : List A) → xs ++ ys ≡ xs → ys ≡ []
+pub nothing_left : {A : Type 0} (xs ys : List A) → xs ++ ys ≡ xs → ys ≡ []
 nothing_left [] ys e = e
 nothing_left (x ∷ xs) ys e = nothing_left xs ys (let k : xs ++ ys ≡ xs = cc in k)
 
-front_empty : {A : Type 0} (xs ys : List A) → xs ++ ys ≡ [] → xs ≡ []
+pub front_empty : {A : Type 0} (xs ys : List A) → xs ++ ys ≡ [] → xs ≡ []
 front_empty [] ys e = refl
 front_empty (x ∷ xs) ys e = cc
 

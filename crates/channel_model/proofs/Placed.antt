@@ -6,7 +6,7 @@ use Rattle.std.proofs.lemmas.Bool.{eqb-true}
 use Rattle.std.proofs.lemmas.Bool.Decides.{nat_tests}
 use Rattle.co_base.specs.declared.names.WaitId.{WaitId}
 use Rattle.channel_model.specs.declared.acts.Act.{Act}
-use Rattle.channel_model.specs.declared.acts.Act.TheVariants.{Hand, Put, Offer, Await, Take, Admit, Drop, Spurn, Close, Void, Drain, WakeClosed, Withdraw, Settle}
+use Rattle.channel_model.specs.declared.acts.Act.TheVariants.{Put, Offer, Await, Take, Admit, Drop, Spurn, Close, Void, Drain, Withdraw, Settle}
 use Rattle.channel_model.specs.declared.acts.Entry.{Entry}
 use Rattle.channel_model.specs.declared.standing.Party.{Party}
 use Rattle.channel_model.specs.declared.standing.Standing.{Standing}
@@ -113,7 +113,6 @@ named_placed who k c p places w s ch h place may e v le = by_test (same_wait w v
     by_test false t = h v (let m = mono v.channel in omega arith)
 
 pub placed_after : (shape : Shape) (s : State) (who : ℕ) (act : Act) → Needs shape s who act → Placed s → Placed (after s who act)
-placed_after shape s who (Hand c p v) n h = grown s _ (first_grows _ _ s) h
 placed_after shape s who (Put c p v) n h = grown s _ (put_grows s c _ (omega arith)) h
 placed_after shape s who (Offer c p v w k) n h = named_placed who k c p (places_at shape c) w s _ h n.1 n.4
     (offer_next (is_open (s.waits w)) _ (s.channels c))
@@ -127,10 +126,10 @@ placed_after shape s who (Spurn c p v) n h = grown s _ (put_grows s c _ (omega a
 placed_after shape s who (Close c v) n h = grown s _ (put_grows s c _ (omega arith)) h
 placed_after shape s who (Void c) n h = grown s _ (put_grows s c _ (omega arith)) h
 placed_after shape s who (Drain c p v) n h = grown s _ (received_grows s c (s.channels c).queue _) h
-placed_after shape s who (WakeClosed c p) n h = grown s _ (first_grows _ _ s) h
 placed_after shape s who (Withdraw w why) n h = grown s _ (resolve_grows w _ s) h
 placed_after shape s who (Settle w outcome) n h = grown s (record s { waits = put_wait w (settled_wait outcome (s.waits w)) s.waits })
     (record { counts = λ c. omega arith; absent = λ v e. put_none s.waits w v (settled_wait outcome) refl e }) h
+placed_after shape s who other n h = grown s _ (first_grows _ _ s) h
 
 from_placed : (shape : Shape) (s : State) (es : List Entry) → LegalFrom shape s es → Placed s → Placed (replay_from s es)
 unfolding LegalFrom replay_from

@@ -3,14 +3,14 @@ use Rattle.std.specs.Prelude.{◌≡◌, ℕ, zero, suc, ◌+◌, ◌≤◌, ◌
 use Rattle.std.specs.List.{list_all}
 use mathlib.Core.List.{IsPrefix}
 use Rattle.std.proofs.Common.{sym, ap, ◌∙◌, subst, arith, append_assoc, inl, inr, ⊎_elim}
-use Rattle.std.proofs.lemmas.Bool.{eqb-true, true≢false, or_parts}
+use Rattle.std.proofs.lemmas.Bool.{eqb-true, true≢false, or_parts, or_left, or_right, or_cases, and_parts}
 use Rattle.std.proofs.lemmas.Bool.Decides.{nat_tests}
 use Rattle.co_base.specs.declared.names.WaitId.{WaitId}
 use Rattle.channel_model.specs.declared.acts.Act.{Act}
 use Rattle.channel_model.specs.declared.acts.Act.TheVariants.{Hand, Put, Offer, Await, Take, Admit, Drop, Spurn, Close, Void, Drain, WakeClosed, Withdraw, Settle}
 use Rattle.channel_model.specs.declared.acts.Entry.{Entry}
 use Rattle.channel_model.specs.declared.acts.Kind.{Kind}
-use Rattle.channel_model.specs.declared.acts.Kind.TheVariants.{Rendezvous, Buffered, Unlimited, Conflated, DropOldest, DropLatest, Signal}
+use Rattle.channel_model.specs.declared.acts.Kind.TheVariants.{Rendezvous, Buffered, Conflated, DropOldest, DropLatest, Signal}
 use Rattle.channel_model.specs.declared.acts.Settled.{Settled}
 use Rattle.channel_model.specs.declared.floor.WaitState.TheVariants as wait_state
 use Rattle.channel_model.specs.declared.standing.Party.{Party}
@@ -30,20 +30,9 @@ use Rattle.channel_model.proofs.Placed.{same_number}
 use Rattle.channel_model.proofs.Histories.{LegalFrom-parts, Legal-prefix, replay_from-append}
 use Rattle.channel_model.proofs.Resolutions.{resolved_stays, resolves_turns, always_keeps}
 use Rattle.channel_model.proofs.Sound.{Sound, sound_step, sound, Lasts, lasts_from, lasts}
+use Rattle.channel_model.proofs.Left.{put_here}
 
 -- ---- tests
-
-or_left : (a b : Bool) → a ≡ true → (a || b) ≡ true
-or_left true b e = refl
-or_left false b e = cc
-
-or_right : (a b : Bool) → b ≡ true → (a || b) ≡ true
-or_right true b e = refl
-or_right false b e = e
-
-or_case : (a b : Bool) → (a || b) ≡ true → (a ≡ true) ⊎ (b ≡ true)
-or_case true b e = inl refl
-or_case false b e = inr e
 
 -- ---- at most n offers stand before one that passes the test
 
@@ -56,18 +45,18 @@ more : (t : Standing → Bool) (n : ℕ) (q : List Standing) → within t n q �
 more t n [] e = cc
 more t zero (o ∷ os) e = or_left (t o) (within t zero os) e
 more t (suc n) (o ∷ os) e = ⊎_elim (λ a. or_left (t o) (within t (suc n) os) a) (λ b. or_right (t o) (within t (suc n) os) (more t n os b))
-    (or_case (t o) (within t n os) e)
+    (or_cases (t o) (within t n os) e)
 
 rest_or : (t : Standing → Bool) (n : ℕ) (o : Standing) (os : List Standing) → within t n (o ∷ os) ≡ true → (t o ≡ true)
     ⊎ (within t n os ≡ true)
 rest_or t zero o os e = inl e
-rest_or t (suc n) o os e = ⊎_elim (λ a. inl a) (λ b. inr (more t n os b)) (or_case (t o) (within t n os) e)
+rest_or t (suc n) o os e = ⊎_elim (λ a. inl a) (λ b. inr (more t n os b)) (or_cases (t o) (within t n os) e)
 
 pushed : (t : Standing → Bool) (n : ℕ) (q : List Standing) (x : Standing) → within t n q ≡ true → within t n (q ++ x ∷ []) ≡ true
 pushed t n [] x e = cc
 pushed t zero (o ∷ os) x e = e
 pushed t (suc n) (o ∷ os) x e = ⊎_elim (λ a. or_left (t o) (within t n (os ++ x ∷ [])) a)
-    (λ b. or_right (t o) (within t n (os ++ x ∷ [])) (pushed t n os x b)) (or_case (t o) (within t n os) e)
+    (λ b. or_right (t o) (within t n (os ++ x ∷ [])) (pushed t n os x b)) (or_cases (t o) (within t n os) e)
 
 placed_last : (t : Standing → Bool) (q : List Standing) (x : Standing) → t x ≡ true → within t (length q) (q ++ x ∷ []) ≡ true
 placed_last t [] x e = e
@@ -86,9 +75,9 @@ filtered t g k (suc n) (o ∷ os) e = at (g o) refl (λ b. filtered t g k n os b
     at : (b : Bool) → g o ≡ b → (within t n os ≡ true → within t n (filter g os) ≡ true)
         → within t (suc n) (if b then o ∷ filter g os else filter g os) ≡ true
     at true h rec = ⊎_elim (λ a. or_left (t o) (within t n (filter g os)) a) (λ b. or_right (t o) (within t n (filter g os)) (rec b))
-        (or_case (t o) (within t n os) e)
+        (or_cases (t o) (within t n os) e)
     at false h rec = ⊎_elim (λ a. absurd (true≢false (sym (k o a) ∙ h))) (λ b. more t n (filter g os) (rec b))
-        (or_case (t o) (within t n os) e)
+        (or_cases (t o) (within t n os) e)
 
 -- ---- the offer of a wait at its place
 
@@ -96,16 +85,12 @@ filtered t g k (suc n) (o ∷ os) e = at (g o) refl (λ b. filtered t g k n os b
 abbrev is_held : ℕ → WaitId → Standing → Bool
 is_held p w o = (o.place == p) && is_held_by w o.holder
 
-both : (a b : Bool) → (a && b) ≡ true → (a ≡ true) × (b ≡ true)
-both true b e = (refl, e)
-both false b e = cc
-
 held_party : (w : WaitId) (h : Option Party) → is_held_by w h ≡ true → wait_of_party h ≡ Some w
 held_party w None e = cc
 held_party w (Some x) e = ap (λ u. Some u) (sym (same_wait-eq w x.wait e))
 
 party_of : (p : ℕ) (w : WaitId) (o : Standing) → is_held p w o ≡ true → wait_of_party o.holder ≡ Some w
-party_of p w o e = held_party w o.holder (both (o.place == p) (is_held_by w o.holder) e).1
+party_of p w o e = held_party w o.holder (and_parts (o.place == p) (is_held_by w o.holder) e).1
 
 held_some : (w : WaitId) (h : Option Party) → is_held_by w h ≡ true → is_some h ≡ true
 held_some w None e = cc
@@ -129,7 +114,7 @@ without_in n p w v ch h = by_test (same_wait v w) refl
     by_test : (b : Bool) → same_wait v w ≡ b → InOr n p w (Some v) (without v ch)
     by_test true e = inr (ap (λ u. Some u) (same_wait-eq v w e))
     by_test false e = inl (filtered (is_held p w) (λ (o : Standing). not (is_held_by v o.holder))
-        (λ o m. held_stays w v o.holder e (both (o.place == p) (is_held_by w o.holder) m).1) n ch.queue h)
+        (λ o m. held_stays w v o.holder e (and_parts (o.place == p) (is_held_by w o.holder) m).1) n ch.queue h)
 
 first_in : (n p c : ℕ) (w : WaitId) (rs : List Receiver) (how : ℕ → Resolution) (s : State) → In n p w (s.channels c)
     → InOr n p w (first_waiting rs) ((resolve_first rs how s).channels c)
@@ -161,14 +146,10 @@ offer_in n p d c w [] how s e h = inl h
 offer_in n p d c w (o ∷ os) how s e h = holder_in n p c w o.holder how (with_queue d os s) (popped n p d c w o os s e h)
 
 -- an offer that is dropped was held by nobody
-drops_not : (k : Kind) (n : ℕ) → drops k n ≡ true → suspends k ≡ false
-drops_not Rendezvous n e = cc
-drops_not (Buffered k) n e = cc
-drops_not Unlimited n e = cc
+pub drops_not : (k : Kind) (n : ℕ) → drops k n ≡ true → suspends k ≡ false
 drops_not Conflated n e = refl
 drops_not (DropOldest k) n e = refl
-drops_not (DropLatest k) n e = cc
-drops_not Signal n e = cc
+drops_not other n e = cc
 
 none_waits : (w : WaitId) (h : Option Party) → is_none h ≡ true → wait_of_party h ≡ Some w → ⊥
 none_waits w None e f = cc
@@ -178,28 +159,24 @@ drop_in : (n p d c : ℕ) (w : WaitId) (os : List Standing) (s : State) → list
     → (s.channels d).queue ≡ os → In n p w (s.channels c) → In n p w ((remove_first d os s).channels c)
 drop_in n p d c w [] s f e h = h
 drop_in n p d c w (o ∷ os) s f e h = ⊎_elim (λ x. x) (λ x. absurd
-    (none_waits w o.holder (both (is_none o.holder) (list_all (λ (o : Standing). is_none o.holder) os) f).0 x))
+    (none_waits w o.holder (and_parts (is_none o.holder) (list_all (λ (o : Standing). is_none o.holder) os) f).0 x))
     (popped n p d c w o os s e h)
 
 -- so was one that is spurned
-spurns_not : (k : Kind) (n : ℕ) → spurns k n ≡ true → suspends k ≡ false
-spurns_not Rendezvous n e = cc
-spurns_not (Buffered k) n e = cc
-spurns_not Unlimited n e = cc
-spurns_not Conflated n e = cc
-spurns_not (DropOldest k) n e = cc
+pub spurns_not : (k : Kind) (n : ℕ) → spurns k n ≡ true → suspends k ≡ false
 spurns_not (DropLatest k) n e = refl
-spurns_not Signal n e = cc
+spurns_not other n e = cc
 
 none_within : (p : ℕ) (w : WaitId) (n : ℕ) (os : List Standing) → list_all (λ (o : Standing). is_none o.holder) os ≡ true
     → within (is_held p w) n os ≡ true → ⊥
 none_within p w n [] f h = cc
-none_within p w zero (o ∷ os) f h = none_waits w o.holder (both (is_none o.holder) (list_all (λ (o : Standing). is_none o.holder) os) f).0
+none_within p w zero (o ∷ os) f h = none_waits w o.holder
+    (and_parts (is_none o.holder) (list_all (λ (o : Standing). is_none o.holder) os) f).0
     (party_of p w o h)
 none_within p w (suc n) (o ∷ os) f h =
-    let k = both (is_none o.holder) (list_all (λ (o : Standing). is_none o.holder) os) f in
+    let k = and_parts (is_none o.holder) (list_all (λ (o : Standing). is_none o.holder) os) f in
     ⊎_elim (λ a. none_waits w o.holder k.0 (party_of p w o a)) (λ b. none_within p w n os k.1 b)
-    (or_case (is_held p w o) (within (is_held p w) n os) h)
+    (or_cases (is_held p w o) (within (is_held p w) n os) h)
 
 spurn_in : (n p d c q : ℕ) (w : WaitId) (s : State) → list_all (λ (o : Standing). is_none o.holder) (s.channels d).queue ≡ true
     → In n p w (s.channels c) → In n p w ((with_queue d (spurned q (s.channels d).queue) s).channels c)
@@ -223,10 +200,10 @@ admitted_in p q w (suc n) (o ∷ os) e = at (o.place == q) (λ b. admitted_in p 
         ⊎ (wait_of_party (if b then o.holder else holder_at q os) ≡ Some w)
     at true rec = ⊎_elim (λ a. inr (party_of p w o a)) (λ b. inl
         (or_right (is_held p w (record o { holder = None })) (within (is_held p w) n os) b))
-        (or_case (is_held p w o) (within (is_held p w) n os) e)
+        (or_cases (is_held p w o) (within (is_held p w) n os) e)
     at false rec = ⊎_elim (λ a. inl (or_left (is_held p w o) (within (is_held p w) n (admitted q os)) a))
         (λ b. ⊎_elim (λ c. inl (or_right (is_held p w o) (within (is_held p w) n (admitted q os)) c)) (λ d. inr d) (rec b))
-        (or_case (is_held p w o) (within (is_held p w) n os) e)
+        (or_cases (is_held p w o) (within (is_held p w) n os) e)
 
 offer_comes : (n p : ℕ) (w : WaitId) (b : Bool) (o : Standing) (ch : Channel) → In n p w ch → In n p w (place_offer b o ch)
 offer_comes n p w false o ch h = h
@@ -279,14 +256,11 @@ stays_lasts shape n c p w = record {
 
 -- ---- what has no room
 
-full_more : (kind : Kind) (m n : ℕ) → m ≤ n → is_full kind m ≡ true → is_full kind n ≡ true
+pub full_more : (kind : Kind) (m n : ℕ) → m ≤ n → is_full kind m ≡ true → is_full kind n ≡ true
 full_more Rendezvous m n h e = refl
 full_more (Buffered k) m n h e = grind (arith, nat_tests)
-full_more Unlimited m n h e = cc
-full_more Conflated m n h e = cc
-full_more (DropOldest k) m n h e = cc
-full_more (DropLatest k) m n h e = cc
 full_more Signal m n h e = refl
+full_more other m n h e = cc
 
 not_owed : (a b f : Bool) → a ≡ true → b ≡ true → (a && (b && not f)) ≡ false → f ≡ true
 not_owed true true true d e g = refl
@@ -308,7 +282,7 @@ has_none kind mark k (suc n) t (o ∷ os) f e d =
     (λ a. let here = f o a in full_more kind k (k + suc n) (omega arith)
     (not_owed (is_some o.holder) (nat_lt o.place mark) (is_full kind k) here.0 here.1 at.0))
     (λ b. full_more kind ((k + 1) + n) (k + suc n) (omega arith) (has_none kind mark (k + 1) n t os f b at.1))
-    (or_case (t o) (within t n os) e)
+    (or_cases (t o) (within t n os) e)
 
 -- ---- the offer
 
@@ -324,9 +298,6 @@ not_resolved (Some x) e h = (let k : state_of_parts x.resolved x.settled ≡ wai
 held_itself : (p : ℕ) (w : WaitId) → ((p == p) && same_wait w w) ≡ true
 held_itself p w = ap (λ b. b && same_wait w w) (same_number p) ∙ same_wait-refl w
 
-at_channel : (c : ℕ) (x : Channel) (channels : ℕ → Channel) → put_channel c x channels c ≡ x
-at_channel c x channels = ap (λ b. if b then x else channels c) (same_number c)
-
 offered : (shape : Shape) (s : State) (who c p v : ℕ) → Needs shape s who (Offer c p v (record { channel = c; place = p }) 0)
     → Sound shape s
     → In (length (s.channels c).queue) p (record { channel = c; place = p })
@@ -336,7 +307,7 @@ offered shape s who c p v f t =
     let o : Standing = record { place = p; value = v; holder = Some (record { wait = w; clause = 0 }) } in
     let none : s.waits w ≡ None = t.placed w (let e = f.1.first in omega arith) in
     let new : ((after s who (Offer c p v w 0)).channels c) ≡ place_offer true o (s.channels c) =
-    at_channel c (place_offer (is_open (s.waits w)) o (s.channels c)) s.channels
+    put_here c (place_offer (is_open (s.waits w)) o (s.channels c)) s.channels
     ∙ ap (λ x. place_offer (is_open x) o (s.channels c)) none in
     subst (In (length (s.channels c).queue) p w) (sym new) (placed_last (is_held p w) (s.channels c).queue o (held_itself p w))
 
@@ -364,9 +335,9 @@ module _ (shape : Shape) (xs ys : List Entry) (who c p v mark : ℕ) where
       (λ h. full_more (kind_at shape c) (0 + n) n (omega arith)
       (has_none (kind_at shape c) mark 0 n (is_held p w) ((replay (xs ++ e ∷ ys)).channels c).queue
       (λ o k. (
-        held_some w o.holder (both (o.place == p) (is_held_by w o.holder) k).1,
+        held_some w o.holder (and_parts (o.place == p) (is_held_by w o.holder) k).1,
         let same =
-            eqb-true o.place p (both (o.place == p) (is_held_by w o.holder) k).0 in grind (arith, nat_tests),
+            eqb-true o.place p (and_parts (o.place == p) (is_held_by w o.holder) k).0 in grind (arith, nat_tests),
       ))
       h owed))
       last

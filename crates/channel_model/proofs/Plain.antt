@@ -1,11 +1,12 @@
 -- Histories whose acts only offer, receive and end waits.
-use Rattle.std.specs.Prelude.{◌≡◌, ℕ, ◌+◌, ◌<◌, ◌==◌, Bool, true, false, not, ◌&&◌, ◌||◌, List, [], ◌∷◌, length, Option, Some, None, refl, if◌then◌else◌, is_some}
+use Rattle.std.specs.Prelude.{◌≡◌, ℕ, ◌+◌, ◌<◌, ◌==◌, Bool, true, false, not, ◌&&◌, List, [], ◌∷◌, length, Option, Some, None, refl, if◌then◌else◌, is_some}
 use Rattle.std.proofs.Common.{ap, ◌∙◌}
+use Rattle.std.proofs.lemmas.Bool.{and_parts, or_from}
 use Rattle.co_base.specs.declared.names.WaitId.{WaitId}
 use Rattle.channel_model.specs.declared.acts.Kind.{Kind}
-use Rattle.channel_model.specs.declared.acts.Kind.TheVariants.{Rendezvous, Buffered, Unlimited, Conflated, DropOldest, DropLatest, Signal}
+use Rattle.channel_model.specs.declared.acts.Kind.TheVariants.{Rendezvous, Signal}
 use Rattle.channel_model.specs.declared.acts.Act.{Act}
-use Rattle.channel_model.specs.declared.acts.Act.TheVariants.{Hand, Put, Offer, Await, Take, Admit, Drop, Spurn, Close, Void, Drain, WakeClosed, Withdraw, Settle}
+use Rattle.channel_model.specs.declared.acts.Act.TheVariants.{Hand, Put, Offer, Await, Take, Settle}
 use Rattle.channel_model.specs.declared.acts.Entry.{Entry}
 use Rattle.channel_model.specs.declared.acts.Settled.{Settled}
 use Rattle.channel_model.specs.declared.standing.Party.{Party}
@@ -106,25 +107,14 @@ after_plain s who (Await c p w k) e h =
     waits_plain _ w (name_clause who k c) (plain_named who k c)
     (put_plain c _ s (receiver_closed b _ (s.channels c) ∙ h.not_closed c) (receiver_voided b _ (s.channels c) ∙ h.not_voided c) h)
 after_plain s who (Take c p v) e h = offer_plain c _ _ s (λ k. refl) h
-after_plain s who (Admit c p) e h = cc
-after_plain s who (Drop c p v) e h = cc
-after_plain s who (Spurn c p v) e h = cc
-after_plain s who (Close c v) e h = cc
-after_plain s who (Void c) e h = cc
-after_plain s who (Drain c p v) e h = cc
-after_plain s who (WakeClosed c p) e h = cc
-after_plain s who (Withdraw w why) e h = cc
 after_plain s who (Settle w outcome) e h = waits_plain s w (settled_wait outcome) (plain_settled outcome) h
-
-both : (a b : Bool) → (a && b) ≡ true → (a ≡ true) × (b ≡ true)
-both true b e = (refl, e)
-both false b e = cc
+after_plain s who other e h = cc
 
 from_plain : (s : State) (es : List Entry) → is_plain_history es ≡ true → IsPlain s → IsPlain (replay_from s es)
 unfolding replay_from
 from_plain s [] e h = h
 from_plain s (x ∷ es) e h =
-    let k = both (is_plain_act x.act) (is_plain_history es) e in
+    let k = and_parts (is_plain_act x.act) (is_plain_history es) e in
     from_plain (after s x.who x.act) es k.1 (after_plain s x.who x.act k.0 h)
 
 pub replay_plain : (es : List Entry) → is_plain_history es ≡ true → IsPlain (replay es)
@@ -134,54 +124,38 @@ replay_plain es e = from_plain start es e (record { not_closed = λ c. refl; not
 
 full_when_none : (kind : Kind) (n : ℕ) → keeps_none kind ≡ true → is_full kind n ≡ true
 full_when_none Rendezvous n e = refl
-full_when_none (Buffered k) n e = cc
-full_when_none Unlimited n e = cc
-full_when_none Conflated n e = cc
-full_when_none (DropOldest k) n e = cc
-full_when_none (DropLatest k) n e = cc
 full_when_none Signal n e = refl
+full_when_none other n e = cc
 
 none_dropped : (kind : Kind) (n : ℕ) → keeps_none kind ≡ true → drops kind n ≡ false
 none_dropped Rendezvous n e = refl
-none_dropped (Buffered k) n e = cc
-none_dropped Unlimited n e = cc
-none_dropped Conflated n e = cc
-none_dropped (DropOldest k) n e = cc
-none_dropped (DropLatest k) n e = cc
 none_dropped Signal n e = refl
+none_dropped other n e = cc
 
 none_over : (kind : Kind) (n : ℕ) → keeps_none kind ≡ true → spurns kind n ≡ false
 none_over Rendezvous n e = refl
-none_over (Buffered k) n e = cc
-none_over Unlimited n e = cc
-none_over Conflated n e = cc
-none_over (DropOldest k) n e = cc
-none_over (DropLatest k) n e = cc
 none_over Signal n e = refl
+none_over other n e = cc
 
-and_false : (a b : Bool) → b ≡ true → (a && not b) ≡ false
+pub and_false : (a b : Bool) → b ≡ true → (a && not b) ≡ false
 and_false true b e = ap not e
 and_false false b e = refl
 
-or_false : (a b : Bool) → a ≡ false → b ≡ false → (a || b) ≡ false
-or_false true b e f = cc
-or_false false b e f = f
-
 none_admitted : (kind : Kind) (n : ℕ) (os : List Standing) → keeps_none kind ≡ true → owes_admission kind n os ≡ false
 none_admitted kind n [] e = refl
-none_admitted kind n (o ∷ os) e = or_false _ _ (and_false (is_some o.holder) (is_full kind n) (full_when_none kind n e))
+none_admitted kind n (o ∷ os) e = or_from _ _ (and_false (is_some o.holder) (is_full kind n) (full_when_none kind n e))
     (none_admitted kind (n + 1) os e)
 
 none_spurned : (kind : Kind) (n : ℕ) (os : List Standing) → keeps_none kind ≡ true → owes_spurn kind n os ≡ false
 none_spurned kind n [] e = refl
-none_spurned kind n (o ∷ os) e = or_false _ _ (none_over kind n e) (none_spurned kind (n + 1) os e)
+none_spurned kind n (o ∷ os) e = or_from _ _ (none_over kind n e) (none_spurned kind (n + 1) os e)
 
 owes_plain : (kind : Kind) (ch : Channel) → keeps_none kind ≡ true → ch.closed ≡ None → ch.voided ≡ false → owes kind ch ≡ false
 owes_plain kind ch e f g =
-    or_false _ _ (none_admitted kind 0 ch.queue e)
-    (or_false _ _ (ap (λ (x : Option ℕ). is_some x && stands_any ch.receivers) f)
-    (or_false _ _ (ap (λ (b : Bool). b && stands_any ch.queue) g)
-    (or_false _ _ (none_dropped kind (length ch.queue) e) (none_spurned kind 0 ch.queue e))))
+    or_from _ _ (none_admitted kind 0 ch.queue e)
+    (or_from _ _ (ap (λ (x : Option ℕ). is_some x && stands_any ch.receivers) f)
+    (or_from _ _ (ap (λ (b : Bool). b && stands_any ch.queue) g)
+    (or_from _ _ (none_dropped kind (length ch.queue) e) (none_spurned kind 0 ch.queue e))))
 
 pub plain_owes_nothing : (shape : Shape) (s : State) → IsPlain s → ((c : ℕ) → c < length shape → keeps_none (kind_at shape c) ≡ true)
     → OwesNothing shape s

@@ -4,8 +4,9 @@ use Rattle.std.specs.List.{list_any}
 use Rattle.std.proofs.Common.{ap, ◌∙◌, subst, arith}
 use Rattle.std.proofs.lemmas.Bool.Decides.{nat_tests}
 use Rattle.std.proofs.lemmas.List.Folds.{list_any-append}
+use Rattle.std.proofs.lemmas.Bool.{or_right}
 use Rattle.channel_model.specs.declared.acts.Kind.{Kind}
-use Rattle.channel_model.specs.declared.acts.Kind.TheVariants.{Rendezvous, Buffered, Unlimited, Conflated, DropOldest, DropLatest, Signal}
+use Rattle.channel_model.specs.declared.acts.Kind.TheVariants.{Conflated, DropOldest}
 use Rattle.channel_model.specs.declared.acts.Act.{Act}
 use Rattle.channel_model.specs.declared.acts.Act.TheVariants.{Put, Drop}
 use Rattle.channel_model.specs.declared.acts.Entry.{Entry}
@@ -22,13 +23,9 @@ here_below : (c p place v : ℕ) → p ≤ place → drops_up_to c place (Drop c
 here_below c p place v h = ap (λ b. b && nat_le p place) (same_number c) ∙ (let k : nat_le p place ≡ true = grind (arith, nat_tests) in k)
 
 dropping : (kind : Kind) (c p place v n : ℕ) → drops kind n ≡ true → p ≤ place → follows_put kind c place (Drop c p v) ≡ true
-dropping Rendezvous c p place v n d h = cc
-dropping (Buffered k) c p place v n d h = cc
-dropping Unlimited c p place v n d h = cc
 dropping Conflated c p place v n d h = here_below c p place v h
 dropping (DropOldest k) c p place v n d h = here_below c p place v h
-dropping (DropLatest k) c p place v n d h = cc
-dropping Signal c p place v n d h = cc
+dropping other c p place v n d h = cc
 
 -- a drop that a call made up to its own place follows its Put
 pub drop_follows : (who c p v place : ℕ) (a b : Floor) → Legal b.shape b.seen → Made who (Drop c p v) a b → p ≤ place
@@ -41,11 +38,8 @@ drop_follows who c p v place a b l m h =
 -- ---- whose a Put is
 
 any_last : (p : Act → Bool) (acts : List Act) (act : Act) → p act ≡ true → list_any p (acts ++ act ∷ []) ≡ true
-any_last p acts act e = list_any-append p acts (act ∷ []) ∙ ap (λ b. list_any p acts || (b || false)) e ∙ or_true (list_any p acts)
-  where
-    or_true : (b : Bool) → (b || true) ≡ true
-    or_true true = refl
-    or_true false = refl
+any_last p acts act e = list_any-append p acts (act ∷ []) ∙ ap (λ b. list_any p acts || (b || false)) e
+    ∙ or_right (list_any p acts) true refl
 
 here_put : (c p v : ℕ) → is_put_at c p (Put c p v) ≡ true
 here_put c p v = ap (λ b. b && (p == p)) (same_number c) ∙ same_number p

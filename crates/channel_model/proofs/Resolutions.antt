@@ -3,7 +3,7 @@ use Rattle.std.specs.Prelude.{◌≡◌, ℕ, ◌+◌, ◌==◌, true, false, Li
 use Rattle.std.proofs.Common.{sym, subst, arith}
 use Rattle.co_base.specs.declared.names.WaitId.{WaitId}
 use Rattle.channel_model.specs.declared.acts.Act.{Act}
-use Rattle.channel_model.specs.declared.acts.Act.TheVariants.{Hand, Put, Offer, Await, Take, Admit, Drop, Spurn, Close, Void, Drain, WakeClosed, Withdraw, Settle}
+use Rattle.channel_model.specs.declared.acts.Act.TheVariants.{Hand, Take, Admit, Drain, WakeClosed, Withdraw, Settle}
 use Rattle.channel_model.specs.declared.acts.Settled.{Settled}
 use Rattle.channel_model.specs.declared.standing.Party.{Party}
 use Rattle.channel_model.specs.declared.standing.Standing.{Standing}
@@ -86,7 +86,7 @@ unfolding OffersStand
 offer_resolved c [] how s h v e = cc
 offer_resolved c (o ∷ os) how s h v e = holder_resolved c o.holder how (with_queue c os s) h.0 v e
 
-holder_at_stands : (waits : WaitId → Option Wait) (c p : ℕ) (os : List Standing) → OffersStand waits c os
+pub holder_at_stands : (waits : WaitId → Option Wait) (c p : ℕ) (os : List Standing) → OffersStand waits c os
     → HolderStands waits c (holder_at p os)
 unfolding OffersStand
 holder_at_stands waits c p [] h = tt
@@ -94,7 +94,7 @@ holder_at_stands waits c p (o ∷ os) h =
     elim (o.place == p) as (λ b. HolderStands waits c (if b then o.holder else holder_at p os))
     [ true ↦ h.0 | false ↦ holder_at_stands waits c p os h.1 ]
 
-open_of : (who : ℕ) (x : Option Wait) → IsOpenOf who x → IsResolvedWait x → ⊥
+pub open_of : (who : ℕ) (x : Option Wait) → IsOpenOf who x → IsResolvedWait x → ⊥
 open_of who None h k = h
 open_of who (Some x) h k = let e = h.1 in cc
 
@@ -116,21 +116,14 @@ withdrawing who w how s h v e =
 pub resolves_turns : (shape : Shape) (s : State) (who : ℕ) (act : Act) → AllStandOpen s → Needs shape s who act → (v : WaitId)
     → resolves s act ≡ Some v → Turns IsResolvedWait v s.waits (after s who act).waits
 resolves_turns shape s who (Hand c p x) h n v e = first_resolved c _ _ s (h c).receivers v e
-resolves_turns shape s who (Put c p x) h n v e = cc
-resolves_turns shape s who (Offer c p x w k) h n v e = cc
-resolves_turns shape s who (Await c p w k) h n v e = cc
 resolves_turns shape s who (Take c p x) h n v e = offer_resolved c _ _ s (h c).offers v e
 resolves_turns shape s who (Admit c p) h n v e =
     holder_resolved c (holder_at p (s.channels c).queue) _ (with_queue c (admitted p (s.channels c).queue) s)
     (holder_at_stands s.waits c p (s.channels c).queue (h c).offers) v e
-resolves_turns shape s who (Drop c p x) h n v e = cc
-resolves_turns shape s who (Spurn c p x) h n v e = cc
-resolves_turns shape s who (Close c x) h n v e = cc
-resolves_turns shape s who (Void c) h n v e = cc
 resolves_turns shape s who (Drain c p x) h n v e = offer_resolved c _ _ s (h c).offers v e
 resolves_turns shape s who (WakeClosed c p) h n v e = first_resolved c _ _ s (h c).receivers v e
 resolves_turns shape s who (Withdraw w why) h n v e = withdrawing who w _ s n v e
-resolves_turns shape s who (Settle w outcome) h n v e = cc
+resolves_turns shape s who other h n v e = cc
 
 -- ---- what an act settles was not settled, and is
 
@@ -155,17 +148,5 @@ settling who outcome w waits h v e =
 
 pub settles_turns : (shape : Shape) (s : State) (who : ℕ) (act : Act) → Needs shape s who act → (v : WaitId) → settles act ≡ Some v
     → Turns IsSettledWait v s.waits (after s who act).waits
-settles_turns shape s who (Hand c p x) n v e = cc
-settles_turns shape s who (Put c p x) n v e = cc
-settles_turns shape s who (Offer c p x w k) n v e = cc
-settles_turns shape s who (Await c p w k) n v e = cc
-settles_turns shape s who (Take c p x) n v e = cc
-settles_turns shape s who (Admit c p) n v e = cc
-settles_turns shape s who (Drop c p x) n v e = cc
-settles_turns shape s who (Spurn c p x) n v e = cc
-settles_turns shape s who (Close c x) n v e = cc
-settles_turns shape s who (Void c) n v e = cc
-settles_turns shape s who (Drain c p x) n v e = cc
-settles_turns shape s who (WakeClosed c p) n v e = cc
-settles_turns shape s who (Withdraw w why) n v e = cc
 settles_turns shape s who (Settle w outcome) n v e = settling who outcome w s.waits n v e
+settles_turns shape s who other n v e = cc

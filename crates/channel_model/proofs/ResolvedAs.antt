@@ -1,9 +1,9 @@
 -- How a wait was resolved stays so, and how it ended.
-use Rattle.std.specs.Prelude.{◌≡◌, ℕ, ◌==◌, Bool, true, false, List, [], ◌∷◌, Option, Some, None, refl, if◌then◌else◌}
+use Rattle.std.specs.Prelude.{◌≡◌, ℕ, Bool, true, false, List, [], ◌∷◌, Option, Some, None, refl, if◌then◌else◌}
 use Rattle.std.proofs.Common.{sym, ◌∙◌, subst}
 use Rattle.co_base.specs.declared.names.WaitId.{WaitId}
 use Rattle.channel_model.specs.declared.acts.Act.{Act}
-use Rattle.channel_model.specs.declared.acts.Act.TheVariants.{Hand, Put, Offer, Await, Take, Admit, Drop, Spurn, Close, Void, Drain, WakeClosed, Withdraw, Settle}
+use Rattle.channel_model.specs.declared.acts.Act.TheVariants.{Hand, Offer, Await, Take, Admit, Drop, Drain, WakeClosed, Withdraw, Settle}
 use Rattle.channel_model.specs.declared.acts.Settled.{Settled}
 use Rattle.channel_model.specs.declared.standing.Party.{Party}
 use Rattle.channel_model.specs.declared.standing.Standing.{Standing}
@@ -15,7 +15,7 @@ use Rattle.channel_model.specs.Needs.{Needs, IsOpenOf, MaySettle}
 use Rattle.channel_model.specs.Laws.{AllStandOpen, IsStandingAt, HolderStands, OffersStand, ReceiversStand, IsResolvedAs, IsSettledAs}
 use Rattle.channel_model.proofs.Waits.{same_wait-eq, one_change}
 use Rattle.channel_model.proofs.Others.{Stays}
-use Rattle.channel_model.proofs.Resolutions.{always_keeps}
+use Rattle.channel_model.proofs.Resolutions.{always_keeps, holder_at_stands}
 use Rattle.channel_model.proofs.Sound.{Lasts}
 
 -- ---- resolved
@@ -60,13 +60,6 @@ removed_other : (how : Resolution) (w : WaitId) (c : ℕ) (q : List Standing) (s
 removed_other how w c [] s h = h
 removed_other how w c (o ∷ os) s h = h
 
-holder_at_stands : (waits : WaitId → Option Wait) (c p : ℕ) (os : List Standing) → OffersStand waits c os
-    → HolderStands waits c (holder_at p os)
-unfolding OffersStand
-holder_at_stands waits c p [] h = tt
-holder_at_stands waits c p (o ∷ os) h = elim (o.place == p) as (λ b. HolderStands waits c (if b then o.holder else holder_at p os))
-    [ true ↦ h.0 | false ↦ holder_at_stands waits c p os h.1 ]
-
 as_named : (how : Resolution) (n k c : ℕ) (x : Option Wait) → IsResolvedAs how x → IsResolvedAs how (name_clause n k c x)
 as_named how n k c None h = absurd h
 as_named how n k c (Some x) h = h
@@ -78,7 +71,6 @@ as_settled how outcome (Some x) h = h
 pub resolved_step : (shape : Shape) (how : Resolution) (w : WaitId) (s : State) (who : ℕ) (act : Act) → AllStandOpen s
     → Needs shape s who act → IsResolvedAs how (s.waits w) → IsResolvedAs how ((after s who act).waits w)
 resolved_step shape how w s who (Hand c p v) stand n h = first_other how w c (s.channels c).receivers _ s (stand c).receivers h
-resolved_step shape how w s who (Put c p v) stand n h = h
 resolved_step shape how w s who (Offer c p v u k) stand n h =
     one_change (IsResolvedAs how) s.waits u w (name_clause who k c) (as_named how who k c (s.waits w)) h
 resolved_step shape how w s who (Await c p u k) stand n h =
@@ -87,14 +79,12 @@ resolved_step shape how w s who (Take c p v) stand n h = offer_other how w c (s.
 resolved_step shape how w s who (Admit c p) stand n h =
     holder_other how w c (holder_at p (s.channels c).queue) _ _ (holder_at_stands s.waits c p (s.channels c).queue (stand c).offers) h
 resolved_step shape how w s who (Drop c p v) stand n h = removed_other how w c (s.channels c).queue s h
-resolved_step shape how w s who (Spurn c p v) stand n h = h
-resolved_step shape how w s who (Close c v) stand n h = h
-resolved_step shape how w s who (Void c) stand n h = h
 resolved_step shape how w s who (Drain c p v) stand n h = offer_other how w c (s.channels c).queue _ s (stand c).offers h
 resolved_step shape how w s who (WakeClosed c p) stand n h = first_other how w c (s.channels c).receivers _ s (stand c).receivers h
 resolved_step shape how w s who (Withdraw u why) stand n h = resolve_other how w u _ s (open_not who how (s.waits u) n) h
 resolved_step shape how w s who (Settle u outcome) stand n h =
     one_change (IsResolvedAs how) s.waits u w (settled_wait outcome) (as_settled how outcome (s.waits w)) h
+resolved_step shape how w s who other stand n h = h
 
 pub resolved_lasts : (shape : Shape) (how : Resolution) (w : WaitId) → Lasts shape (λ s. IsResolvedAs how (s.waits w))
 resolved_lasts shape how w = record { step = λ s who act h n p. resolved_step shape how w s who act h.stand n p }

@@ -1,19 +1,16 @@
 -- What several calls of one caller add to what was seen.
-use Rattle.std.specs.Prelude.{◌≡◌, ℕ, true, List, [], ◌∷◌, ◌++◌, refl, ◌==◌, if◌then◌else◌}
+use Rattle.std.specs.Prelude.{◌≡◌, ℕ, List, [], ◌∷◌, ◌++◌, refl, if◌then◌else◌}
 use mathlib.Core.List.{IsPrefix}
 use Rattle.co_base.proofs.Orders.{order_then}
-use Rattle.std.proofs.Common.{sym, ap, ◌∙◌, append_assoc, arith}
-use Rattle.std.proofs.lemmas.Bool.Decides.{nat_tests}
+use Rattle.std.proofs.Common.{sym, ap, ◌∙◌, append_assoc}
+use Rattle.std.proofs.lemmas.Bool.{eq-eqb}
+pub use mathlib.Core.List.{append-nil as nothing_more}
 use Rattle.channel_model.specs.declared.acts.Act.{Act}
 use Rattle.channel_model.specs.declared.acts.Entry.{Entry}
 use Rattle.channel_model.specs.Channels.{State}
 use Rattle.channel_model.specs.Histories.{acts_of}
 use Rattle.channel_model.proofs.Histories.{acts_of-append}
 use Rattle.channel_model.specs.Floors.{Floor, SameSetting, HasRoom, Looked, Made, AtStep, entries_by, Added}
-
-pub nothing_more : {A : Type 0} (xs : List A) → xs ++ [] ≡ xs
-nothing_more [] = refl
-nothing_more (x ∷ xs) = ap (λ l. x ∷ l) (nothing_more xs)
 
 pub prefix_self : (xs : List Entry) → IsPrefix xs xs
 prefix_self xs = ([], nothing_more xs)
@@ -53,10 +50,7 @@ added_looked who old new h = record {
 
 own_act : (who : ℕ) (act : Act) → acts_of who (record { who = who; act = act } ∷ []) ≡ act ∷ []
 unfolding acts_of
-own_act who act = ap (λ b. if b then act ∷ [] else []) (same_number who)
-  where
-    same_number : (n : ℕ) → (n == n) ≡ true
-    same_number n = grind (arith, nat_tests)
+own_act who act = ap (λ b. if b then act ∷ [] else []) (eq-eqb who who refl)
 
 pub added_made : (who : ℕ) (act : Act) (old new : Floor) → Made who act old new → Added who (act ∷ []) old new
 added_made who act old new h = record {

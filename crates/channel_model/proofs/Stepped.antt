@@ -4,6 +4,7 @@ use Rattle.std.specs.Bool.{Decides}
 use Rattle.std.specs.List.{list_any}
 use Rattle.std.proofs.Common.{sym, ap, ◌∙◌, subst, arith, inl, inr, ⊎_elim}
 use Rattle.std.proofs.lemmas.Bool.Decides.{Decides-and, Decides-like, Decides-ltb, Decides-eqb, Decides-or, nat_tests}
+use Rattle.std.proofs.lemmas.Bool.{eq-eqb}
 use Rattle.co_base.specs.declared.names.WaitId.{WaitId}
 use Rattle.channel_model.specs.declared.acts.Act.{Act}
 use Rattle.channel_model.specs.declared.acts.Act.TheVariants.{Hand, Put, Offer, Await, Take, Admit, Drop, Spurn, Close, Void, Drain, WakeClosed, Withdraw, Settle}
@@ -120,16 +121,10 @@ settled_same (settled.Value k v) (settled.Sent j) e = cc
 settled_same (settled.Value k v) (settled.Closed j u) e = cc
 settled_same (settled.Value k v) settled.Cancelled e = cc
 settled_same (settled.Value k v) (settled.Undelivered u) e = cc
-settled_same (settled.Sent k) (settled.Value j u) e = cc
 settled_same (settled.Sent k) (settled.Sent j) e = ap settled.Sent ((Decides-eqb k j).0 e)
-settled_same (settled.Sent k) (settled.Closed j u) e = cc
-settled_same (settled.Sent k) settled.Cancelled e = cc
-settled_same (settled.Sent k) (settled.Undelivered u) e = cc
-settled_same (settled.Closed k v) (settled.Value j u) e = cc
-settled_same (settled.Closed k v) (settled.Sent j) e = cc
+settled_same (settled.Sent k) other e = cc
 settled_same (settled.Closed k v) (settled.Closed j u) e = two_numbers settled.Closed k v j u e
-settled_same (settled.Closed k v) settled.Cancelled e = cc
-settled_same (settled.Closed k v) (settled.Undelivered u) e = cc
+settled_same (settled.Closed k v) other e = cc
 settled_same settled.Cancelled (settled.Value j u) e = cc
 settled_same settled.Cancelled (settled.Sent j) e = cc
 settled_same settled.Cancelled (settled.Closed j u) e = cc
@@ -141,18 +136,15 @@ settled_same (settled.Undelivered v) (settled.Closed j u) e = cc
 settled_same (settled.Undelivered v) settled.Cancelled e = cc
 settled_same (settled.Undelivered v) (settled.Undelivered u) e = ap settled.Undelivered ((Decides-eqb v u).0 e)
 
-own_number : (n : ℕ) → (n == n) ≡ true
-own_number n = grind (arith, nat_tests)
-
 own_numbers : (k v : ℕ) → ((k == k) && (v == v)) ≡ true
-own_numbers k v = (Decides-and (k == k) (v == v) (true_decides (k == k)) (true_decides (v == v))).1 (own_number k, own_number v)
+own_numbers k v = (Decides-and (k == k) (v == v) (true_decides (k == k)) (true_decides (v == v))).1 (eq-eqb k k refl, eq-eqb v v refl)
 
 same_itself : (x : Settled) → same_settled x x ≡ true
 same_itself (settled.Value k v) = own_numbers k v
-same_itself (settled.Sent k) = own_number k
+same_itself (settled.Sent k) = eq-eqb k k refl
 same_itself (settled.Closed k v) = own_numbers k v
 same_itself settled.Cancelled = refl
-same_itself (settled.Undelivered v) = own_number v
+same_itself (settled.Undelivered v) = eq-eqb v v refl
 
 settled_decides : (x y : Settled) → Decides (same_settled x y) (x ≡ y)
 settled_decides x y = (settled_same x y, λ e. subst (λ z. same_settled x z ≡ true) e (same_itself x))
@@ -168,20 +160,16 @@ some_value v (resolved.Taken k) e = cc
 some_value v other e = cc
 
 was_sent : (k : ℕ) (how : Resolution) → IsOutcome (settled.Sent k) (Some how) → settled.Sent k ≡ outcome_of how false
-was_sent k (resolved.Handed j v) e = cc
 was_sent k (resolved.Taken j) e = let f : j ≡ k = cc in ap settled.Sent (sym f)
 was_sent k (resolved.Admitted j) e = let f : j ≡ k = cc in ap settled.Sent (sym f)
-was_sent k (resolved.Closed j v) e = cc
-was_sent k (resolved.Withdrawn why) e = cc
-was_sent k resolved.Voided e = cc
+was_sent k other e = cc
 
 ends_as : (outcome : Settled) (how : Resolution) → IsOutcome outcome (Some how) → (outcome ≡ outcome_of how false)
     ⊎ (outcome ≡ outcome_of how true)
-ends_as (settled.Value k v) how e = inl (ap (λ x. outcome_of x false) (sym e))
 ends_as (settled.Sent k) how e = inl (was_sent k how e)
-ends_as (settled.Closed k v) how e = inl (ap (λ x. outcome_of x false) (sym e))
 ends_as settled.Cancelled how e = inr (no_value how e)
 ends_as (settled.Undelivered v) how e = inr (some_value v how e)
+ends_as other how e = inl (ap (λ x. outcome_of x false) (sym e))
 
 outcome_decides : (outcome : Settled) (how : Option Resolution) → Decides (is_outcome outcome how) (IsOutcome outcome how)
 outcome_decides outcome None = never_decides (λ h. h)

@@ -4,7 +4,7 @@ use Rattle.std.proofs.Common.{sym, ap, ◌∙◌, subst, arith, inl, ne_eqb}
 use Rattle.std.proofs.lemmas.Bool.{eqb-true}
 use Rattle.std.proofs.lemmas.Bool.Decides.{nat_tests}
 use Rattle.channel_model.specs.declared.acts.Kind.{Kind}
-use Rattle.channel_model.specs.declared.acts.Kind.TheVariants.{Rendezvous, Buffered, Unlimited, Conflated, DropOldest, DropLatest, Signal}
+use Rattle.channel_model.specs.declared.acts.Kind.TheVariants.{DropLatest}
 use Rattle.channel_model.specs.declared.acts.Act.{Act}
 use Rattle.channel_model.specs.declared.acts.Act.TheVariants.{Hand, Put, Offer, Await, Take, Admit, Drop, Spurn, Close, Void, Drain, WakeClosed, Withdraw, Settle}
 use Rattle.channel_model.specs.declared.acts.Entry.{Entry}
@@ -193,14 +193,9 @@ replay_stood shape history c l =
 
 -- ---- an offer before which too many stand was one too many when it was placed
 
-spurns_more : (kind : Kind) (m n : ℕ) → m ≤ n → spurns kind m ≡ true → spurns kind n ≡ true
-spurns_more Rendezvous m n h e = cc
-spurns_more (Buffered k) m n h e = cc
-spurns_more Unlimited m n h e = cc
-spurns_more Conflated m n h e = cc
-spurns_more (DropOldest k) m n h e = cc
+pub spurns_more : (kind : Kind) (m n : ℕ) → m ≤ n → spurns kind m ≡ true → spurns kind n ≡ true
 spurns_more (DropLatest k) m n h e = grind (arith, nat_tests)
-spurns_more Signal m n h e = cc
+spurns_more other m n h e = cc
 
 over_at : (kind : Kind) (f : ℕ → ℕ) (p n : ℕ) (os : List Standing) → StoodAll f n os → owes_spurn_at kind p n os ≡ true
     → spurns kind (f p) ≡ true
@@ -222,7 +217,7 @@ replay_over shape history c p l e = over_at (kind_at shape c) ((replay history).
 
 -- ---- a number stays once its place was given out
 
-other_stays : (places c q m p d : ℕ) (s : State) → HasPlace places q (s.channels c) → p < (s.channels d).next
+pub other_stays : (places c q m p d : ℕ) (s : State) → HasPlace places q (s.channels c) → p < (s.channels d).next
     → put_stood c q m s.stood d p ≡ s.stood d p
 other_stays places c q m p d s h lt = by_test (c == d) refl
   where
@@ -231,19 +226,20 @@ other_stays places c q m p d s h lt = by_test (c == d) refl
         ∙ sym h.first) lt)
     by_test false e = refl
 
-first_stays : (rs : List Receiver) (how : ℕ → Resolution) (s : State) (d p : ℕ) → (resolve_first rs how s).stood d p ≡ s.stood d p
+pub first_stays : (rs : List Receiver) (how : ℕ → Resolution) (s : State) (d p : ℕ) → (resolve_first rs how s).stood d p ≡ s.stood d p
 first_stays [] how s d p = refl
 first_stays (r ∷ rs) how s d p = refl
 
-holder_stays : (x : Option Party) (how : ℕ → Resolution) (s : State) (d p : ℕ) → (resolve_holder x how s).stood d p ≡ s.stood d p
+pub holder_stays : (x : Option Party) (how : ℕ → Resolution) (s : State) (d p : ℕ) → (resolve_holder x how s).stood d p ≡ s.stood d p
 holder_stays None how s d p = refl
 holder_stays (Some x) how s d p = refl
 
-offer_stays : (c : ℕ) (q : List Standing) (how : ℕ → Resolution) (s : State) (d p : ℕ) → (resolve_offer c q how s).stood d p ≡ s.stood d p
+pub offer_stays : (c : ℕ) (q : List Standing) (how : ℕ → Resolution) (s : State) (d p : ℕ)
+    → (resolve_offer c q how s).stood d p ≡ s.stood d p
 offer_stays c [] how s d p = refl
 offer_stays c (o ∷ os) how s d p = holder_stays o.holder how (with_queue c os s) d p
 
-removed_stays : (c : ℕ) (q : List Standing) (s : State) (d p : ℕ) → (remove_first c q s).stood d p ≡ s.stood d p
+pub removed_stays : (c : ℕ) (q : List Standing) (s : State) (d p : ℕ) → (remove_first c q s).stood d p ≡ s.stood d p
 removed_stays c [] s d p = refl
 removed_stays c (o ∷ os) s d p = refl
 
@@ -252,18 +248,13 @@ stays_step : (shape : Shape) (s : State) (who : ℕ) (act : Act) (d p : ℕ) →
 stays_step shape s who (Hand c q v) d p n lt = first_stays (s.channels c).receivers _ s d p
 stays_step shape s who (Put c q v) d p n lt = other_stays (places_at shape c) c q (length (s.channels c).queue) p d s n.1 lt
 stays_step shape s who (Offer c q v w k) d p n lt = other_stays (places_at shape c) c q (length (s.channels c).queue) p d s n.1 lt
-stays_step shape s who (Await c q w k) d p n lt = refl
 stays_step shape s who (Take c q v) d p n lt = offer_stays c (s.channels c).queue _ s d p
 stays_step shape s who (Admit c q) d p n lt = holder_stays (holder_at q (s.channels c).queue) _
     (with_queue c (admitted q (s.channels c).queue) s) d p
 stays_step shape s who (Drop c q v) d p n lt = removed_stays c (s.channels c).queue s d p
-stays_step shape s who (Spurn c q v) d p n lt = refl
-stays_step shape s who (Close c v) d p n lt = refl
-stays_step shape s who (Void c) d p n lt = refl
 stays_step shape s who (Drain c q v) d p n lt = offer_stays c (s.channels c).queue _ s d p
 stays_step shape s who (WakeClosed c q) d p n lt = first_stays (s.channels c).receivers _ s d p
-stays_step shape s who (Withdraw w why) d p n lt = refl
-stays_step shape s who (Settle w outcome) d p n lt = refl
+stays_step shape s who other d p n lt = refl
 
 -- the place was given out, and so many stood
 record StoodSo (c p n : ℕ) (s : State) : Type 0 where

@@ -2,6 +2,7 @@
 use Rattle.std.specs.Prelude.{◌≡◌, ℕ, ◌≤◌, ◌==◌, ◌||◌, true, List, ◌++◌, length, Option, Some, None, refl}
 use Rattle.std.proofs.Common.{ap, arith, sym, subst, ◌∙◌, append-nil}
 use Rattle.std.proofs.lemmas.List.{length-append}
+use Rattle.std.proofs.lemmas.Option.{same_Some}
 use Rattle.co_base.specs.Streams.{Gave, IsDrained}
 use Rattle.script_grammar.specs.Programs.{Program}
 use Rattle.script_grammar.specs.Grammar.{Spells}
@@ -12,22 +13,19 @@ use Rattle.command_line.specs.declared.status.Status.TheVariants as status
 use Rattle.command_line.specs.Commands.{reads}
 use Rattle.command_line.specs.Statuses.{Completes, IsUndisturbed, Means, Needs, Refuses, SpellsAny, SpellsNone, Stream, ends_whole, number_of}
 
-some_same : {A : Type 0} (x y : A) → Some x ≡ Some y → x ≡ y
-some_same x y e = cc
-
 -- what was given of bytes that are told, and drained, is all
 all_given : (old new : Option (List ℕ)) (bytes input : List ℕ) → old ≡ Some bytes → Gave old new input → IsDrained new → input ≡ bytes
 all_given None new bytes input e given none = cc
 all_given (Some old) None bytes input e given none = absurd given
 all_given (Some old) (Some new) bytes input e given none =
-    sym (append-nil input) ∙ ap (λ rest. input ++ rest) (sym none) ∙ sym given ∙ some_same old bytes e
+    sym (append-nil input) ∙ ap (λ rest. input ++ rest) (sym none) ∙ sym given ∙ same_Some old bytes e
 
 -- what was given is no longer than what is there
 no_longer : (old new : Option (List ℕ)) (bytes input : List ℕ) → old ≡ Some bytes → Gave old new input → length input ≤ length bytes
 no_longer None new bytes input e given = cc
 no_longer (Some old) None bytes input e given = absurd given
 no_longer (Some old) (Some new) bytes input e given =
-    omega (arith, ap length given, length-append input new, ap length (some_same old bytes e))
+    omega (arith, ap length given, length-append input new, ap length (same_Some old bytes e))
 
 -- a script is not refused
 not_refused : (source source' : Stream) (input text : List ℕ) → Gave source.bytes source'.bytes input
@@ -52,9 +50,8 @@ whole : (s : Status) (command : Command) (source source' sink sink' : Stream) �
 whole status.Completed (Run workers) source source' sink sink' m u n = refl
 whole status.Completed Check source source' sink sink' m u n = refl
 whole status.Completed (Sum size workers) source source' sink sink' m u n = refl
-whole status.Cancelled (Run workers) source source' sink sink' m u n = refl
 whole status.Cancelled Check source source' sink sink' m u n = absurd m.answers
-whole status.Cancelled (Sum size workers) source source' sink sink' m u n = refl
+whole status.Cancelled other source source' sink sink' m u n = refl
 whole status.Refused command source source' sink sink' m u n = cc
 whole status.NoScript (Run workers) source source' sink sink' m u n =
     absurd (not_refused source source' m.input m.text m.given m.all m.answers n)

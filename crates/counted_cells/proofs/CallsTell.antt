@@ -187,11 +187,8 @@ in_time cells who n d v u w own s a lt = let c = a.cell lt in (
 
 -- it gives up in this cell
 abbrev gives_up_in : ℕ → CellAct → Bool
-gives_up_in p (Draw d i) = false
-gives_up_in p (Miss d) = false
-gives_up_in p (Place i w) = false
-gives_up_in p (Pair d i v) = false
 gives_up_in p (GiveUp d i) = i == p
+gives_up_in p other = false
 
 abbrev pub keeps_on : ℕ → List CellEntry → Bool
 keeps_on p [] = true

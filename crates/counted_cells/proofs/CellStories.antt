@@ -35,15 +35,11 @@ kept s t p x xs f (Story.left u w h) = Story.left u w (f (side_of w) u h)
 
 free_story : (s : State) (p : ℕ) (x : CellState) (xs : List CellEntry) → x ≡ Free → Story s p x xs → xs ≡ []
 free_story s p x xs e Story.nobody = refl
-free_story s p x xs e (Story.one u w h) = cc
-free_story s p x xs e (Story.two u z v d h k) = cc
-free_story s p x xs e (Story.left u w h) = cc
+free_story s p x xs e other = cc
 
 abbrev waiter_of : CellState → Waiter
-waiter_of Free = Receiver
 waiter_of (Waits w) = w
-waiter_of (Paired v) = Receiver
-waiter_of (Broken d) = Receiver
+waiter_of other = Receiver
 
 record Waiting (s : State) (p : ℕ) (w : Waiter) (xs : List CellEntry) : Type 0 where
   pub who : ℕ
@@ -51,11 +47,9 @@ record Waiting (s : State) (p : ℕ) (w : Waiter) (xs : List CellEntry) : Type 0
   pub story : xs ≡ entry_of who (Place p w) ∷ []
 
 waits_story : (s : State) (p : ℕ) (x : CellState) (xs : List CellEntry) (w : Waiter) → x ≡ Waits w → Story s p x xs → Waiting s p w xs
-waits_story s p x xs w e Story.nobody = cc
 waits_story s p x xs w e (Story.one u z h) = subst (λ (y : Waiter). Waiting s p y (entry_of u (Place p z) ∷ [])) (ap waiter_of e)
     (record { who = u; drawer = h; story = refl })
-waits_story s p x xs w e (Story.two u z v d h k) = cc
-waits_story s p x xs w e (Story.left u z h) = cc
+waits_story s p x xs w e other = cc
 
 partner_of : (d : Side) (v : ℕ) → side_of (partner d v) ≡ other_side d
 partner_of Send v = refl
@@ -67,10 +61,8 @@ record Standing (x : CellState) (d : Side) : Type 0 where
   pub side : side_of waiter ≡ d
 
 is_standing : (x : CellState) (d : Side) → waits_for d x ≡ true → Standing x d
-is_standing Free d h = cc
 is_standing (Waits w) d h = record { waiter = w; is = refl; side = is_same (side_of w) d h }
-is_standing (Paired v) d h = cc
-is_standing (Broken e) d h = cc
+is_standing other d h = cc
 
 -- ---- one entry more
 

@@ -196,8 +196,6 @@ turns cells who p old new act v own narrow may = record {
 
     by_act : (act : CellAct) (others : List CellEntry) → Now cells v others → (state_of (v.seen ++ others)).cells p ≡ old
         → MayTurn who p old new act (now_in v) → Turn others act
-    by_act (Draw d i) others since is m = absurd m
-    by_act (Miss d) others since is m = absurd m
     by_act (Place i w) others since is m = let s : State = state_of (v.seen ++ others) in (
       (still_drawer cells who i (side_of w) v others own since m.3, ap s.cells m.0 ∙ is ∙ m.1),
       refl,
@@ -213,6 +211,7 @@ turns cells who p old new act v own narrow may = record {
       refl,
       puts s m.0 m.2,
     )
+    by_act other others since is m = absurd m
 
 pub turns_at : (key who p word turned_word : ℕ) (old new : CellState) (act : CellAct) (v : Seen) → word ≡ cell_code old
     → turned_word ≡ cell_code new → has_tag who v.tags ≡ true → IsNarrow new → MayTurn who p old new act (now_in v)

@@ -57,10 +57,8 @@ Becomes (Waits w) Free = ⊥
 Becomes (Waits w) (Waits x) = x ≡ w
 Becomes (Waits w) (Paired v) = Unit {0}
 Becomes (Waits w) (Broken d) = d ≡ side_of w
-Becomes (Paired v) Free = ⊥
-Becomes (Paired v) (Waits x) = ⊥
 Becomes (Paired v) (Paired u) = u ≡ v
-Becomes (Paired v) (Broken d) = ⊥
+Becomes (Paired v) other = ⊥
 Becomes (Broken d) Free = ⊥
 Becomes (Broken d) (Waits x) = ⊥
 Becomes (Broken d) (Paired u) = ⊥
@@ -68,22 +66,17 @@ Becomes (Broken d) (Broken e) = e ≡ d
 
 pub stays_so : (x : CellState) → Becomes x x
 stays_so Free = tt
-stays_so (Waits w) = refl
-stays_so (Paired v) = refl
-stays_so (Broken d) = refl
+stays_so other = refl
 
 -- what a free cell becomes
 to_wait : (x : CellState) (w : Waiter) → Becomes x Free → Becomes x (Waits w)
 to_wait Free w h = tt
-to_wait (Waits u) w h = absurd h
-to_wait (Paired v) w h = absurd h
-to_wait (Broken d) w h = absurd h
+to_wait other w h = absurd h
 
 to_pair : (x : CellState) (w : Waiter) (v : ℕ) → Becomes x (Waits w) → Becomes x (Paired v)
-to_pair Free w v h = tt
-to_pair (Waits u) w v h = tt
 to_pair (Paired u) w v h = absurd h
 to_pair (Broken d) w v h = absurd h
+to_pair other w v h = tt
 
 to_broken : (x y : CellState) (d : Side) → waits_for d y ≡ true → Becomes x y → Becomes x (Broken d)
 to_broken Free y d k h = tt
@@ -91,10 +84,8 @@ to_broken (Waits u) Free d k h = absurd h
 to_broken (Waits u) (Waits w) d k h = sym (is_same (side_of w) d k) ∙ ap side_of h
 to_broken (Waits u) (Paired v) d k h = cc
 to_broken (Waits u) (Broken e) d k h = cc
-to_broken (Paired u) Free d k h = absurd h
-to_broken (Paired u) (Waits w) d k h = absurd h
 to_broken (Paired u) (Paired v) d k h = cc
-to_broken (Paired u) (Broken e) d k h = absurd h
+to_broken (Paired u) other d k h = absurd h
 to_broken (Broken u) Free d k h = absurd h
 to_broken (Broken u) (Waits w) d k h = absurd h
 to_broken (Broken u) (Paired v) d k h = absurd h
@@ -108,12 +99,11 @@ at_put P s i j x h k = dite (ℕ_discrete j i)
 
 pub becomes_step : (cells : ℕ) (s : State) (who : ℕ) (act : CellAct) (x : CellState) (i : ℕ) → Needs cells s who act → Becomes x (s.cells i)
     → Becomes x ((after s who act).cells i)
-becomes_step cells s who (Draw e j) x i k h = h
-becomes_step cells s who (Miss e) x i k h = h
 becomes_step cells s who (Place j w) x i k h = at_put (Becomes x) s i j (Waits w) h (λ q. to_wait x w (subst (Becomes x) k.1 q))
 becomes_step cells s who (Pair e j v) x i k h = at_put (Becomes x) s i j (Paired v) h
     (λ q. to_pair x (partner e v) v (subst (Becomes x) k.1 q))
 becomes_step cells s who (GiveUp e j) x i k h = at_put (Becomes x) s i j (Broken e) h (λ q. to_broken x (s.cells j) e k.1 q)
+becomes_step cells s who other x i k h = h
 
 pub still_come : (d : Side) (x y : CellState) → Becomes x y → has_come d x ≡ true → has_come d y ≡ true
 still_come d Free y h k = cc
@@ -121,10 +111,8 @@ still_come d (Waits w) Free h k = absurd h
 still_come d (Waits w) (Waits x) h k = ap (λ (z : Waiter). same_side (side_of z) d) h ∙ k
 still_come d (Waits w) (Paired v) h k = refl
 still_come d (Waits w) (Broken e) h k = ap (λ (z : Side). same_side z d) h ∙ k
-still_come d (Paired v) Free h k = absurd h
-still_come d (Paired v) (Waits x) h k = absurd h
 still_come d (Paired v) (Paired u) h k = refl
-still_come d (Paired v) (Broken e) h k = absurd h
+still_come d (Paired v) other h k = absurd h
 still_come d (Broken e) Free h k = absurd h
 still_come d (Broken e) (Waits x) h k = absurd h
 still_come d (Broken e) (Paired u) h k = absurd h
@@ -143,8 +131,6 @@ comes d s i who t w p q ne = go (same_side (side_of w) d) refl
 -- who has not come to the cell that it drew has not by what another does
 pub not_come_step : (cells : ℕ) (s : State) (t : ℕ) (act : CellAct) (d : Side) (i who : ℕ) → Needs cells s t act → (t ≡ who → ⊥)
     → IsDrawer d who i s → has_come d (s.cells i) ≡ false → has_come d ((after s t act).cells i) ≡ false
-not_come_step cells s t (Draw e j) d i who k ne q h = h
-not_come_step cells s t (Miss e) d i who k ne q h = h
 not_come_step cells s t (Place j w) d i who k ne q h = dite (ℕ_discrete j i)
     (λ is. ap (has_come d) (ap (put j (Waits w) s.cells) (sym is) ∙ put_here j (Waits w) s.cells)
     ∙ comes d s i who t w (ap (s.drawer (side_of w)) (sym is) ∙ k.0) q ne)
@@ -174,6 +160,7 @@ not_come_step cells s t (GiveUp e j) d i who k ne q h = dite (ℕ_discrete j i)
         go Send Receive a b = refl
         go Receive Send a b = refl
         go Receive Receive a b = absurd (ne (same_drawer a b))
+not_come_step cells s t other d i who k ne q h = h
 
 -- ---- others
 
@@ -198,7 +185,6 @@ all_keep cells P step s (e ∷ es) sound k h = all_keep cells P step (after s e.
 
 pub late_step : (s : State) (t who : ℕ) (act : CellAct) (d : Side) → (t ≡ who → ⊥) → s.late d who ≡ false
     → (after s t act).late d who ≡ false
-late_step s t who (Draw e j) d ne h = h
 late_step s t who (Miss e) d ne h = go e d h
   where
     go : (e d : Side) → s.late d who ≡ false → put_side e (put t true (s.late e)) s.late d who ≡ false
@@ -206,9 +192,7 @@ late_step s t who (Miss e) d ne h = go e d h
     go Send Receive h = h
     go Receive Send h = h
     go Receive Receive h = put_else t who true (s.late Receive) ne ∙ h
-late_step s t who (Place j w) d ne h = h
-late_step s t who (Pair e j v) d ne h = h
-late_step s t who (GiveUp e j) d ne h = h
+late_step s t who other d ne h = h
 
 -- ---- what a pass had done goes on to hold
 
@@ -222,11 +206,8 @@ come_step cells s t act who i sound k h = record {
 
 -- the entry gives up in no cell
 abbrev pub gives_up : CellAct → Bool
-gives_up (Draw d i) = false
-gives_up (Miss d) = false
-gives_up (Place i w) = false
-gives_up (Pair d i v) = false
 gives_up (GiveUp d i) = true
+gives_up other = false
 
 -- the cell that who drew is whole still, unless who gave up there
 pub whole_step : (cells : ℕ) (s : State) (t : ℕ) (act : CellAct) (who i : ℕ) → Sound cells s → Needs cells s t act

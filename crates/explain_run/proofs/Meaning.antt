@@ -1,5 +1,5 @@
 -- A call that writes nothing, and one that writes an explanation.
-use Rattle.std.proofs.Common.{◌≡◌, List, ℕ, Bool, true, refl, subst, Result, Ok, Err, Vec}
+use Rattle.std.proofs.Common.{List, ℕ, Bool, true, refl, Result, Ok, Err, Vec}
 use Rattle.std.specs.Global.{Global}
 use Rattle.co_base.specs.Streams.{Gave, IsDrained}
 use Rattle.explain_run.specs.declared.outcome.Outcome.{Outcome}
@@ -34,8 +34,3 @@ made_of (Err outcomes.WriteFault) source source' input given drained m = absurd 
 made_of (Err outcomes.Refused) source source' input given drained m = absurd m
 made_of (Err outcomes.TooLong) source source' input given drained m = absurd m
 made_of (Err outcomes.ReadFault) source source' input given drained m = absurd m
-
--- what was made for these words
-pub made_for : (r : Result (Vec ℕ Global) Outcome) (asked : Bool) (source source' : Stream) → true ≡ asked
-    → IsMade r true source source' → IsMade r asked source source'
-made_for r asked source source' is m = subst (λ a. IsMade r a source source') is m

@@ -27,13 +27,13 @@ use Rattle.channel_model.specs.Histories.{replay, Legal}
 use Rattle.channel_model.specs.Floors.{Floor, HasRoom, Looked, Made}
 use Rattle.channel_model.specs.Answers.{OfferAnswer, TriedOfferAnswer, GotAnswer, TriedGotAnswer, CloseAnswer, WakeAnswer, VoidAnswer, DrainAnswer, LookAnswer, SettleAnswer, WithdrawAnswer, MarkAnswer, AdmitAnswer, TrimAnswer, SpurnAnswer, HasPut, IsOwn, IsSeenClosed, IsSeenVoided}
 use Rattle.channel_model.proofs.Histories.{replay_push}
-use Rattle.channel_model.proofs.Later.{closed_later, voided_later}
 use Rattle.channel_model.proofs.Puts.{put_lasts}
 use Rattle.channel_model.proofs.Spans.{prefix_self, prefix_then, prefix_append, setting_then, added_looked, added_made}
 use Rattle.call_meaning.specs.ChannelCalls.{wait_at}
 use Rattle.floor_rows.specs.declared.known.Known.{Known}
 use Rattle.floor_rows.specs.Known.{Knows, Grows, KnownThen, with_wait, after_offer, after_receive, after_close, after_void}
 use Rattle.floor_rows.proofs.WaitsBegun.{Begun, made_own, own_lasts}
+use Rattle.channel_model.proofs.Lasts.{closed_lasts, voided_lasts}
 
 -- ---- how a floor grows
 
@@ -60,9 +60,8 @@ offer_grows who c v a b offered.Spent h = looked_grows who a b h.0
 try_offer_grows : (who c v : ℕ) (a b : Floor) (r : TriedOffer) → TriedOfferAnswer who c v a b r → Grows a b
 try_offer_grows who c v a b (tried_offer.Handed p t) h = made_grows who _ a b h.made
 try_offer_grows who c v a b (tried_offer.Put p) h = made_grows who _ a b h
-try_offer_grows who c v a b tried_offer.Full h = looked_grows who a b h.0
 try_offer_grows who c v a b (tried_offer.Closed x) h = looked_grows who a b h.looked
-try_offer_grows who c v a b tried_offer.Spent h = looked_grows who a b h.0
+try_offer_grows who c v a b other h = looked_grows who a b h.0
 
 receive_grows : (who c : ℕ) (a b : Floor) (r : Got) → GotAnswer who c a b r → Grows a b
 receive_grows who c a b (got.Taken p v t) h = made_grows who _ a b h.made
@@ -128,30 +127,16 @@ got_room who a b (tried_got.Closed x) h room = let s = h.0.looked.spare in omega
 pub offer_room : (who v : ℕ) (a b : Floor) (r : Offered) → OfferAnswer who 0 v a b r → 2 < a.spare → 1 < b.spare
 offer_room who v a b (offered.Handed p t) h room = let s = h.made.spare in omega (arith, room)
 offer_room who v a b (offered.Put p) h room = let s = h.spare in omega (arith, room)
-offer_room who v a b (offered.Held p) h room = let s = h.0.spare in omega (arith, room)
 offer_room who v a b (offered.Closed x) h room = let s = h.looked.spare in omega (arith, room)
-offer_room who v a b offered.Spent h room = let s = h.0.spare in omega (arith, room)
+offer_room who v a b other h room = let s = h.0.spare in omega (arith, room)
 
 pub tried_room : (who v : ℕ) (a b : Floor) (r : TriedOffer) → TriedOfferAnswer who 0 v a b r → 2 < a.spare → 1 < b.spare
 tried_room who v a b (tried_offer.Handed p t) h room = let s = h.made.spare in omega (arith, room)
 tried_room who v a b (tried_offer.Put p) h room = let s = h.spare in omega (arith, room)
-tried_room who v a b tried_offer.Full h room = let s = h.0.spare in omega (arith, room)
 tried_room who v a b (tried_offer.Closed x) h room = let s = h.looked.spare in omega (arith, room)
-tried_room who v a b tried_offer.Spent h room = let s = h.0.spare in omega (arith, room)
+tried_room who v a b other h room = let s = h.0.spare in omega (arith, room)
 
 -- ---- what is known stays known
-
-closed_grown : (c : ℕ) (a b : Floor) → Legal b.shape b.seen → IsPrefix a.seen b.seen → IsSeenClosed c a → IsSeenClosed c b
-closed_grown c a b l p h = by_value ((replay a.seen).channels c).closed refl h
-  where
-    by_value : (x : Option ℕ) → ((replay a.seen).channels c).closed ≡ x → is_some x ≡ true → IsSeenClosed c b
-    by_value None e k = cc
-    by_value (Some v) e k = ap is_some (subst (λ (es : List Entry). ((replay es).channels c).closed ≡ Some v) p.1
-        (closed_later b.shape a.seen p.0 c v (subst (Legal b.shape) (sym p.1) l) e))
-
-voided_grown : (c : ℕ) (a b : Floor) → Legal b.shape b.seen → IsPrefix a.seen b.seen → IsSeenVoided c a → IsSeenVoided c b
-voided_grown c a b l p h = subst (λ (es : List Entry). ((replay es).channels c).voided ≡ true) p.1
-    (voided_later b.shape a.seen p.0 c (subst (Legal b.shape) (sym p.1) l) h)
 
 knows_grown : (k : Known) (a b : Floor) → Legal b.shape b.seen → Grows a b → Knows k a → Knows k b
 knows_grown k a b l g h = record {
@@ -159,8 +144,8 @@ knows_grown k a b l g h = record {
   elements = subst (λ (s : Shape). is_signal (kind_at s 0) ≡ false) (sym g.same.shape) h.elements;
   caller = λ e. ap (λ (f : ℕ → Bool). f k.tag) g.same.callers ∙ h.caller e;
   own = λ e. own_lasts k.tag (wait_at 0 k.place) a b l g.longer (h.own e);
-  closed = λ e. closed_grown 0 a b l g.longer (h.closed e);
-  voided = λ e. voided_grown 0 a b l g.longer (h.voided e);
+  closed = λ e. closed_lasts 0 a b l g.longer (h.closed e);
+  voided = λ e. voided_lasts 0 a b l g.longer (h.voided e);
 }
 
 with_own : (k : Known) (who p : ℕ) (b : Floor) → b.callers who ≡ true → IsOwn who (wait_at 0 p) b → Knows k b → Knows (with_wait k who p) b

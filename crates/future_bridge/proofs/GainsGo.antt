@@ -16,7 +16,7 @@ use Rattle.channel_model.specs.declared.acts.Kind.TheVariants as kinds
 use Rattle.channel_model.specs.Channels.{Shape, Wait, kind_at, is_signal}
 use Rattle.channel_model.specs.Histories.{replay, acts_of, Legal}
 use Rattle.channel_model.specs.Floors.{Floor, Looked, Made}
-use Rattle.channel_model.specs.Answers.{GotAnswer, TakenFrom, LookAnswer, SettleAnswer, IsUnsettledOf, IsReadyWait, IsReady, IsOwnWait, IsOwn, state_of_wait, state_of_parts}
+use Rattle.channel_model.specs.Answers.{GotAnswer, TakenFrom, LookAnswer, SettleAnswer, IsUnsettledOf, IsReadyWait, IsReady, IsOwnWait, state_of_wait, state_of_parts}
 use Rattle.channel_model.specs.ClauseSides.{AllAllowed, EndsAtClause}
 use Rattle.channel_model.proofs.Histories.{Legal-prefix}
 use Rattle.channel_model.proofs.Placed.{same_number}

@@ -194,8 +194,6 @@ ended_gives old new st s m =
 -- the offer that waited was removed with its channel
 pub voided_gives : (old new : SendSink) (vs : List ℕ) (f : SinkFault) → SinkStands new → SameSink old new
     → PolledSinkSo old new (Ready (Err f)) → SinkGives old vs new.pass (Err f)
-voided_gives old new vs (fault.Closed v x) st s m = absurd m
-voided_gives old new vs (fault.Spent v) st s m = absurd m
 voided_gives old new vs (fault.Cancelled v) st s m =
     let a = acted old new (EndsVoided old.c v old.wait) s m.1 in
     record { own = own_later old new s st; giving = s.giving; acts = a.acts; added = a.added; went = by_wait old.wait a.acts a.are }
@@ -203,6 +201,7 @@ voided_gives old new vs (fault.Cancelled v) st s m =
     by_wait : (wait : Waits) (acts : List Act) → EndsVoided old.c v wait acts → IsVoided old.c v wait vs acts
     by_wait None acts h = absurd h
     by_wait (Some x) acts h = subst (λ l. IsVoided old.c v (Some x) vs l) (sym h.1) (IsVoided.waiting x vs h.0)
+voided_gives old new vs other st s m = absurd m
 
 -- the next of the list was not sent
 pub refused_gives : (old mid new : SendSink) (v : ℕ) (vs : List ℕ) (f : SinkFault) → SinkStands new → SameSink old mid → SameSink mid new

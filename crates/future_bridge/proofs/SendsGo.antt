@@ -172,8 +172,6 @@ held_so who c p a b d (step.Waits q) m h = (
   record { plain = h.2.plain; stood = moment_within a b d d _ m.below.added.longer h.2.stood (prefix_self d.seen) },
   record { admitted = b; admits = m; longer = h.1.added.longer },
 )
-held_so who c p a b d (step.Closed x) m h = h
-held_so who c p a b d step.Spent m h = h
 held_so who c p a b d step.Cancelled m h = (
   record {
     acts = map (λ q. Admit c q) m.below.places ++ h.acts;
@@ -182,6 +180,7 @@ held_so who c p a b d step.Cancelled m h = (
   },
   record { admitted = b; admits = m; longer = h.added.longer },
 )
+held_so who c p a b d other m h = h
 
 -- ---- an offer
 
@@ -229,8 +228,6 @@ held who c v p a b d (step.Waits q) m h =
           { plain = h.2.plain; stood = moment_within a b d d _ added.longer h.2.stood (prefix_self d.seen) }),
       Follows.offers p b added h.3,
     )
-held who c v p a b d (step.Closed x) m h = absurd h
-held who c v p a b d step.Spent m h = absurd h
 held who c v p a b d step.Cancelled m h =
     let added = added_made who (Offer c p v (wait_at c p) 0) a b m in (
       record {
@@ -240,6 +237,7 @@ held who c v p a b d step.Cancelled m h =
       },
       Follows.offers p b added h.1,
     )
+held who c v p a b d other m h = absurd h
 
 pub closed : (who c v x : ℕ) (a d : Floor) → OfferAnswer who c v a d (offered.Closed x) → OfferedSo who c v a d (step.Closed x)
 closed who c v x a d m = (record { acts = []; added = added_looked who a d m.looked; are = refl }, m.is_closed)

@@ -180,11 +180,10 @@ exchange_made key old n e v w is told = subst (λ (b : Bool). MatchBool b (Enter
 
 -- what a call knows of its pass is what its act needs
 pub ready_for : (d : Want) (a : GateAct) (p : GatePass) → Suits d a → IsReady d p → ReadyFor a p.held p.waits
-ready_for want.Take act.Take p s r = tt
 ready_for want.Take act.Wait p s r = absurd s
 ready_for want.Take act.Give p s r = absurd s
 ready_for want.Take (act.Grant t) p s r = absurd s
-ready_for want.Take act.GiveUp p s r = tt
+ready_for want.Take other p s r = tt
 ready_for want.TakeOrWait act.Take p s r = tt
 ready_for want.TakeOrWait act.Wait p s r = r.0
 ready_for want.TakeOrWait act.Give p s r = absurd s
@@ -209,17 +208,14 @@ ready_still want.Give p q n h w r = subst (λ k. 0 < k) (sym h) r
 ready_still want.GiveUp p q n h w r = w ∙ r
 
 pub low_still : (d : Want) (p q : GatePass) → q.number ≡ p.number → IsReady d p → IsLow d q.number
-low_still want.Take p q n r = tt
 low_still want.TakeOrWait p q n r = subst (λ k. k < 48) (sym n) r.1
-low_still want.Give p q n r = tt
-low_still want.GiveUp p q n r = tt
+low_still other p q n r = tt
 
 -- a word by which there is no act to make
 pub not_told : (n w : ℕ) (d : Want) (who : ℕ) (s : State) → w ≡ word_of s → Sound n s → n ≤ 65535 → IsChosen d who w None → IsNot d who s
 not_told n w want.Take who s is h le k = sym (free_told n s h le) ∙ sym (ap free_in is) ∙ k
-not_told n w want.TakeOrWait who s is h le k = k
-not_told n w want.Give who s is h le k = k
 not_told n w want.GiveUp who s is h le k = sym (waits_told n s who h le) ∙ sym (ap (λ x. waits_in x who) is) ∙ k
+not_told n w other who s is h le k = k
 
 -- the entries of one number for another name of it
 pub adds_as : (t who : ℕ) (made : List GateEntry) (v w : Seen) → t ≡ who → Adds t made v w → Adds who made v w

@@ -133,11 +133,10 @@ claims_other s who GiveUp t ne k = ap (λ b. holds t s + one_if b) (put_else who
 
 -- who does not wait does not by another's step
 pub calm_other : (s : State) (who : ℕ) (act : GateAct) (t : ℕ) → (who ≡ t → ⊥) → s.waits t ≡ false → (after s who act).waits t ≡ false
-calm_other s who Take t ne h = h
 calm_other s who Wait t ne h = put_else who t true s.waits ne ∙ h
-calm_other s who Give t ne h = h
 calm_other s who (Grant u) t ne h = put_false u t s.waits h
 calm_other s who GiveUp t ne h = put_false who t s.waits h
+calm_other s who other t ne h = h
 
 -- what a pass counts
 pub record Counted (who held : ℕ) (waits : Bool) (s : State) : Type 0 where
@@ -203,7 +202,7 @@ counted_own s who GiveUp held waits k r h = record {
   calm = λ f. put_here who false s.waits;
 }
 
-one_small : (b : Bool) → one_if b ≤ 1
+pub one_small : (b : Bool) → one_if b ≤ 1
 one_small true = omega arith
 one_small false = omega arith
 

@@ -1,7 +1,7 @@
 -- What a word tells of the state, and what an act makes of it.
 use Rattle.std.specs.Prelude.{◌≡◌, ℕ, zero, suc, ◌+◌, ◌*◌, ◌-◌, ◌/◌, ◌%◌, ◌^◌, ◌==◌, ◌<◌, ◌≤◌, Bool, true, false, length, nat_lt, ◌&&◌, refl}
 use Rattle.std.proofs.Common.{sym, ap, ◌∙◌, subst, arith, w64, pow-suc, shr-shr}
-use Rattle.std.proofs.lemmas.Bool.{lt-ltb, ltb-true, ltb-false}
+use Rattle.std.proofs.lemmas.Bool.{lt-ltb, ltb-true, ltb-false, and_right}
 use Rattle.std.specs.Int.{bit_at, trailing_zeros}
 use Rattle.std.proofs.lemmas.Nat.Bits.{bit_at_lowest, bit_at-suc, bit_at_above, bit_at_cat_high, bit_at-trailing_zeros}
 use Rattle.gates.specs.declared.act.GateAct.{GateAct}
@@ -10,11 +10,7 @@ use Rattle.gates.specs.Gates.{State, put, one_if, after, holds, Needs}
 use Rattle.gates.specs.Words.{mask_of, word_of, free_in, waits_in}
 use Rattle.gates.specs.Answers.{Allows, ReadyFor, TurnsWord, MayTurnWord, HasBit}
 use Rattle.gates.proofs.HistoriesGoOn.{put_here, put_else}
-use Rattle.gates.proofs.StatesStaySound.{Sound, sound_step, Counted, holds_more}
-
-one_small : (b : Bool) → one_if b ≤ 1
-one_small true = omega arith
-one_small false = omega arith
+use Rattle.gates.proofs.StatesStaySound.{Sound, sound_step, Counted, holds_more, one_small}
 
 -- ---- masks
 
@@ -116,13 +112,9 @@ waits_told n s t h le = by_test (nat_lt t 48) refl
     by_test true is = ap (λ b. b && (bit_at (word_of s) (16 + t) == 1)) is ∙ ap (λ x. x == 1) (bit (ltb-true t 48 is)) ∙ is_one (s.waits t)
     by_test false is = ap (λ b. b && (bit_at (word_of s) (16 + t) == 1)) is ∙ sym (h.few t (ltb-false t 48 is))
 
-and_no : (a b : Bool) → b ≡ false → (a && b) ≡ false
-and_no true b h = h
-and_no false b h = refl
-
 -- nobody waits by a word that is as small as the number of permits
 pub nobody_told : (w t : ℕ) → w < 65536 → waits_in w t ≡ false
-nobody_told w t lt = and_no (nat_lt t 48) (bit_at w (16 + t) == 1)
+nobody_told w t lt = and_right (nat_lt t 48) (bit_at w (16 + t) == 1)
     (ap (λ x. x == 1) (bit_at_above w 16 (16 + t) lt (high_from t)))
 
 high_some : (w : ℕ) → 65536 ≤ w → 0 < w / 65536
@@ -193,11 +185,10 @@ turns_word n s who GiveUp h k = bit_up s.free (mask_of (put who false s.waits) 4
     (bit_cleared s who (low_of n s who h k) k)
 
 pub has_bit : (n : ℕ) (s : State) (who : ℕ) (act : GateAct) → Sound n s → Needs s who act → HasBit who act
-has_bit n s who Take h k = tt
 has_bit n s who Wait h k = k.2
-has_bit n s who Give h k = tt
 has_bit n s who (Grant t) h k = low_of n s t h k.1
 has_bit n s who GiveUp h k = low_of n s who h k
+has_bit n s who other h k = tt
 
 pub may_turn_word : (n w : ℕ) (s : State) (who : ℕ) (act : GateAct) → w ≡ word_of s → Sound n s → n ≤ 65535 → Needs s who act
     → MayTurnWord who act w
@@ -205,11 +196,9 @@ may_turn_word n w s who act is h le k = subst (MayTurnWord who act) (sym is)
     (word_of (after s who act), turns_word n s who act h k, word_small n (after s who act) (sound_step n s who act h k) le)
 
 pub same_turn : (who : ℕ) (act : GateAct) (w x y : ℕ) → TurnsWord who act w x → TurnsWord who act w y → x ≡ y
-same_turn who Take w x y h k = omega (arith, h, k)
 same_turn who Wait w x y h k = h ∙ sym k
 same_turn who Give w x y h k = h ∙ sym k
-same_turn who (Grant t) w x y h k = omega (arith, h, k)
-same_turn who GiveUp w x y h k = omega (arith, h, k)
+same_turn who other w x y h k = omega (arith, h, k)
 
 -- ---- one word, one answer
 

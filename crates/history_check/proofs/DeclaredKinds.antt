@@ -5,7 +5,7 @@ use Rattle.std.proofs.lemmas.List.{get_or_default}
 use Rattle.std.specs.List.{All}
 use Rattle.std.proofs.lemmas.Bool.Decides.{nat_tests}
 use Rattle.channel_model.specs.declared.acts.Kind.{Kind}
-use Rattle.channel_model.specs.declared.acts.Kind.TheVariants.{Rendezvous, Buffered, Unlimited, Conflated, DropOldest, DropLatest, Signal}
+use Rattle.channel_model.specs.declared.acts.Kind.TheVariants.{Buffered, DropOldest, DropLatest, Signal}
 use Rattle.channel_model.specs.Channels.{kind_at}
 use Rattle.one_thread_floor.specs.ListFloors.{MayBeMade, has_capacity}
 use Rattle.script_grammar.specs.Programs.{Declared, Program, shape_of}
@@ -20,13 +20,10 @@ some_kept : (k : ℕ) → is_capacity k ≡ true → has_capacity (DropLatest k)
 some_kept k e = grind (arith, nat_tests)
 
 capacity_of : (version : ℕ) (kind : Kind) → is_kind version kind ≡ true → has_capacity kind ≡ true
-capacity_of version Rendezvous e = refl
 capacity_of version (Buffered k) e = grind (arith, nat_tests)
-capacity_of version Unlimited e = refl
-capacity_of version Conflated e = refl
 capacity_of version (DropOldest k) e = grind (arith, nat_tests)
 capacity_of version (DropLatest k) e = let two = both_true (version == 2) _ e in some_kept k two.1
-capacity_of version Signal e = refl
+capacity_of version other e = refl
 
 pub all_may_be_made : (p : Program) → IsProgram p → All MayBeMade (shape_of p)
 all_may_be_made p ok c d lt = subst MayBeMade (get_or_default (shape_of p) c (Signal, 0) d lt)

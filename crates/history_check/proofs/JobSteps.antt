@@ -2,12 +2,8 @@
 use Rattle.std.specs.Prelude.{◌≡◌, ℕ, Bool, true, false, List, [], ◌∷◌, ◌++◌, length, Option, Some, None, option_map, refl}
 use Rattle.std.specs.Bool.{Decides}
 use Rattle.std.proofs.Common.{sym, ap, ◌∙◌, subst, arith, append_assoc, append-nil, true≢false}
-use Rattle.std.proofs.lemmas.Bool.{eqb-true, eq-eqb}
 use Rattle.std.proofs.lemmas.Bool.Decides.{Decides-at}
-use Rattle.job_model.specs.declared.acts.Cause.{Cause}
-use Rattle.job_model.specs.declared.acts.Cause.TheVariants as because
 use Rattle.job_model.specs.declared.acts.End.{End}
-use Rattle.job_model.specs.declared.acts.End.TheVariants as ends
 use Rattle.job_model.specs.declared.acts.JobAct.{JobAct}
 use Rattle.job_model.specs.declared.acts.JobEntry.{JobEntry}
 use Rattle.job_model.specs.declared.acts.JobNote.{JobNote}
@@ -17,7 +13,7 @@ use Rattle.job_model.specs.declared.acts.JobState.TheVariants as states
 use Rattle.job_model.specs.Effects.{after}
 use Rattle.job_model.specs.Histories.{Legal, LegalFrom, replay, replay_from}
 use Rattle.job_model.specs.Needs.{Needs}
-use Rattle.job_model.specs.Steps.{is_end, may_make, same_cause, same_end}
+use Rattle.job_model.specs.Steps.{is_end, may_make}
 use Rattle.job_model.specs.Trees.{Job, Shape, Tree, is_cancelling, start, state_of}
 use Rattle.job_model.proofs.Histories.{LegalFrom-parts, Legal_push, replay_push}
 use Rattle.job_replay.specs.declared.calls.JobLook.{JobLook}
@@ -28,39 +24,12 @@ use Rattle.job_replay.proofs.TreeCalls.{may_of, needs_of}
 use Rattle.note_book.specs.declared.book.Item.TheVariants as item
 use Rattle.note_book.specs.Items.{job_act}
 use Rattle.call_meaning.specs.Facts.{JobNoteHolds, end_at, end_by}
-use Rattle.history_check.specs.declared.verdict.Step.{Step}
 use Rattle.history_check.specs.declared.verdict.Step.TheVariants as step
 use Rattle.history_check.specs.Histories.{job_entry_by}
 use Rattle.history_check.specs.Steps.{IsJobMade, IsJobStep, IsJobTold, end_shown, end_shown_by, listed_job, shows_cancelling}
+use Rattle.job_model.proofs.Needed.{ends_so}
 
 -- ---- notes
-
-cause_is : (c d : Cause) → Decides (same_cause c d) (c ≡ d)
-cause_is because.None because.None = (λ e. refl, λ e. refl)
-cause_is because.None because.Request = (λ e. cc, λ e. cc)
-cause_is because.None (because.Failure g) = (λ e. cc, λ e. cc)
-cause_is because.Request because.None = (λ e. cc, λ e. cc)
-cause_is because.Request because.Request = (λ e. refl, λ e. refl)
-cause_is because.Request (because.Failure g) = (λ e. cc, λ e. cc)
-cause_is (because.Failure f) because.None = (λ e. cc, λ e. cc)
-cause_is (because.Failure f) because.Request = (λ e. cc, λ e. cc)
-cause_is (because.Failure f) (because.Failure g) = (
-  λ e. ap (λ u. because.Failure u) (eqb-true f g e),
-  λ e. eq-eqb f g (let k : f ≡ g = cc in k),
-)
-
-end_is : (e f : End) → Decides (same_end e f) (e ≡ f)
-end_is (ends.Completed v) (ends.Completed w) = (λ e. ap (λ u. ends.Completed u) (eqb-true v w e), λ e. eq-eqb v w (let k : v ≡ w = cc in k))
-end_is (ends.Completed v) (ends.Cancelled d) = (λ e. cc, λ e. cc)
-end_is (ends.Cancelled c) (ends.Completed w) = (λ e. cc, λ e. cc)
-end_is (ends.Cancelled c) (ends.Cancelled d) = (
-  λ e. ap (λ u. ends.Cancelled u) ((cause_is c d).0 e),
-  λ e. (cause_is c d).1 (let k : c ≡ d = cc in k),
-)
-
-ends_so : (end : End) (o : Option End) → Decides (is_end end o) (o ≡ Some end)
-ends_so end None = (λ e. cc, λ e. cc)
-ends_so end (Some f) = (λ e. ap (λ u. Some u) ((end_is f end).0 e), λ e. (end_is f end).1 (let k : f ≡ end = cc in k))
 
 shown_by : (state : JobState) (j : Job) → end_shown_by state (look_of j) ≡ end_by state j
 shown_by states.New j = refl
@@ -75,12 +44,8 @@ shown_end None = refl
 shown_end (Some j) = shown_by j.state j
 
 cancelling_is : (state : JobState) → Decides (is_cancelling state) (Some state ≡ Some states.Cancelling)
-cancelling_is states.New = (λ e. cc, λ e. cc)
-cancelling_is states.Active = (λ e. cc, λ e. cc)
-cancelling_is states.Completing = (λ e. cc, λ e. cc)
 cancelling_is states.Cancelling = (λ e. refl, λ e. refl)
-cancelling_is states.Cancelled = (λ e. cc, λ e. cc)
-cancelling_is states.Completed = (λ e. cc, λ e. cc)
+cancelling_is other = (λ e. cc, λ e. cc)
 
 seen_cancelling : (x : Option Job) → Decides (shows_cancelling (option_map look_of x)) (state_of x ≡ Some states.Cancelling)
 seen_cancelling None = (λ e. cc, λ e. cc)
@@ -105,24 +70,14 @@ act_made who (Made b) act old new e f = λ tree h.
     let is : act ≡ b = cc in
     subst (λ (a : JobAct). (may_make (shape_of old.size) tree who a ≡ true) × IsTree (after tree who a) new) is
     (sym (f tree h).may, (f tree h).left)
-act_made who (Saw row) act old new e f = absurd (omega (arith, ap length e))
-act_made who (SawEnd row end) act old new e f = absurd (omega (arith, ap length e))
-act_made who (Fail code) act old new e f = absurd (omega (arith, ap length e))
-act_made who NoRow act old new e f = absurd (omega (arith, ap length e))
-act_made who Used act old new e f = absurd (omega (arith, ap length e))
-act_made who ParentEnded act old new e f = absurd (omega (arith, ap length e))
+act_made who other act old new e f = absurd (omega (arith, ap length e))
 
 pub act_refused : (who : ℕ) (note : JobNote) (act : JobAct) (old new : JobReplay) → listed_job (Some act) ≡ job_act note
     → ((tree : Tree) → IsTree tree old → IsStep false tree who act old new) → IsJobStep step.MayNotCome who note old new
 act_refused who (Made b) act old new e f = λ tree h.
     let is : act ≡ b = cc in
     subst (λ (a : JobAct). may_make (shape_of old.size) tree who a ≡ false) is (sym (f tree h).may)
-act_refused who (Saw row) act old new e f = absurd (omega (arith, ap length e))
-act_refused who (SawEnd row end) act old new e f = absurd (omega (arith, ap length e))
-act_refused who (Fail code) act old new e f = absurd (omega (arith, ap length e))
-act_refused who NoRow act old new e f = absurd (omega (arith, ap length e))
-act_refused who Used act old new e f = absurd (omega (arith, ap length e))
-act_refused who ParentEnded act old new e f = absurd (omega (arith, ap length e))
+act_refused who other act old new e f = absurd (omega (arith, ap length e))
 
 -- a note that is no act, and holds or not
 pub note_good : (who : ℕ) (note : JobNote) (x : JobReplay) → listed_job None ≡ job_act note
@@ -130,20 +85,12 @@ pub note_good : (who : ℕ) (note : JobNote) (x : JobReplay) → listed_job None
 note_good who (Made b) x e f = absurd (omega (arith, ap length e))
 note_good who (Saw row) x e f = λ tree h. ((f tree h).0 refl, refl)
 note_good who (SawEnd row end) x e f = λ tree h. ((f tree h).0 refl, refl)
-note_good who (Fail code) x e f = λ tree h. (tt, refl)
-note_good who NoRow x e f = λ tree h. (tt, refl)
-note_good who Used x e f = λ tree h. (tt, refl)
-note_good who ParentEnded x e f = λ tree h. (tt, refl)
+note_good who other x e f = λ tree h. (tt, refl)
 
 pub note_bad : (who : ℕ) (note : JobNote) (x : JobReplay) → listed_job None ≡ job_act note
     → ((tree : Tree) → IsTree tree x → Decides false (JobNoteHolds note tree)) → IsJobStep step.NotSo who note x x
 note_bad who (Made b) x e f = absurd (omega (arith, ap length e))
-note_bad who (Saw row) x e f = λ tree h k. true≢false (sym ((f tree h).1 k))
-note_bad who (SawEnd row end) x e f = λ tree h k. true≢false (sym ((f tree h).1 k))
-note_bad who (Fail code) x e f = λ tree h k. true≢false (sym ((f tree h).1 k))
-note_bad who NoRow x e f = λ tree h k. true≢false (sym ((f tree h).1 k))
-note_bad who Used x e f = λ tree h k. true≢false (sym ((f tree h).1 k))
-note_bad who ParentEnded x e f = λ tree h k. true≢false (sym ((f tree h).1 k))
+note_bad who other x e f = λ tree h k. true≢false (sym ((f tree h).1 k))
 
 -- ---- a line of a Job
 
@@ -206,19 +153,9 @@ pub job_may_not_come : (jobs : Shape) (before : List JobEntry) (who : ℕ) (note
     → IsTree (replay before) old → IsJobStep step.MayNotCome who note old new → (more : List JobEntry)
     → Legal jobs ((before ++ job_entry_by who (item.Job note)) ++ more) → ⊥
 job_may_not_come jobs before who (Made act) old new is at h more l = refused jobs before who act old new is (h (replay before) at) more l
-job_may_not_come jobs before who (Saw row) old new is at h more l = absurd (h (replay before) at)
-job_may_not_come jobs before who (SawEnd row end) old new is at h more l = absurd (h (replay before) at)
-job_may_not_come jobs before who (Fail code) old new is at h more l = absurd (h (replay before) at)
-job_may_not_come jobs before who NoRow old new is at h more l = absurd (h (replay before) at)
-job_may_not_come jobs before who Used old new is at h more l = absurd (h (replay before) at)
-job_may_not_come jobs before who ParentEnded old new is at h more l = absurd (h (replay before) at)
+job_may_not_come jobs before who other old new is at h more l = absurd (h (replay before) at)
 
 pub job_not_so : (before : List JobEntry) (who : ℕ) (note : JobNote) (old new : JobReplay) → IsTree (replay before) old
     → IsJobStep step.NotSo who note old new → JobNoteHolds note (replay before) → ⊥
 job_not_so before who (Made act) old new at h k = absurd (h (replay before) at)
-job_not_so before who (Saw row) old new at h k = h (replay before) at k
-job_not_so before who (SawEnd row end) old new at h k = h (replay before) at k
-job_not_so before who (Fail code) old new at h k = h (replay before) at k
-job_not_so before who NoRow old new at h k = h (replay before) at k
-job_not_so before who Used old new at h k = h (replay before) at k
-job_not_so before who ParentEnded old new at h k = h (replay before) at k
+job_not_so before who other old new at h k = h (replay before) at k

@@ -10,7 +10,7 @@ use Rattle.channel_model.specs.declared.acts.Act.{Act}
 use Rattle.channel_model.specs.declared.acts.Act.TheVariants.{Hand, Put, Offer, Await, Take, Admit, Drop, Spurn, Close, Void, Drain, WakeClosed, Withdraw, Settle}
 use Rattle.channel_model.specs.declared.acts.Entry.{Entry}
 use Rattle.channel_model.specs.declared.acts.Kind.{Kind}
-use Rattle.channel_model.specs.declared.acts.Kind.TheVariants.{Rendezvous, Buffered, Unlimited, Conflated, DropOldest, DropLatest, Signal}
+use Rattle.channel_model.specs.declared.acts.Kind.TheVariants.{Rendezvous, Buffered, DropLatest, Signal}
 use Rattle.channel_model.specs.declared.standing.Party.{Party}
 use Rattle.channel_model.specs.declared.standing.Receiver.{Receiver}
 use Rattle.channel_model.specs.declared.standing.Resolution.{Resolution}
@@ -21,10 +21,8 @@ use Rattle.channel_model.specs.Floors.{Floor, HasRoom, Made}
 use Rattle.channel_model.specs.Histories.{Legal, replay, replay_from}
 use Rattle.channel_model.specs.Needs.{Needs}
 use Rattle.channel_model.proofs.Histories.{LegalFrom-parts, replay_push}
-use Rattle.one_thread_floor.specs.declared.list_floor.ListFloor.{ListFloor}
-use Rattle.one_thread_floor.specs.ListFloors.{MayBeMade, floor_of, has_capacity}
-use Rattle.one_thread_floor.specs.ListSteps.{ToldOver}
-use Rattle.history_check.specs.Overs.{AreNone, AreOvers, IsOver, IsSet, KeepsOvers, TellsOver, bit_in, bits_of, over_in}
+use Rattle.one_thread_floor.specs.ListFloors.{MayBeMade, has_capacity}
+use Rattle.history_check.specs.Overs.{AreNone, AreOvers, IsOver, IsSet, KeepsOvers, bit_in, bits_of, over_in}
 use Rattle.history_check.proofs.Walks.{first_needs, has_more}
 
 -- ---- one channel's bits become others
@@ -74,32 +72,11 @@ pub set_over_of : (r : Result (Unit {0}) Memory) (xs : List (Vec Bool Global)) (
 set_over_of (Ok done) xs c p b old new lt here h = set_here xs c p b old new lt here h
 set_over_of (Err e) xs c p b old new lt here h = tt
 
--- ---- one channel more
-
-push_none : (xs : List (Vec Bool Global)) (x : Vec Bool Global) → x.items ≡ [] → ((c p : ℕ) → over_in xs c p ≡ false)
-    → (c p : ℕ) → over_in (xs ++ x ∷ []) c p ≡ false
-push_none [] x e none zero p = ap (λ l. bit_in l p) e
-push_none [] x e none (suc c) p = refl
-push_none (y ∷ ys) x e none zero p = none zero p
-push_none (y ∷ ys) x e none (suc c) p = push_none ys x e (λ d q. none (suc d) q) c p
-
-pub one_more : (n : ℕ) (xs : List (Vec Bool Global)) (x : Vec Bool Global) → x.items ≡ [] → AreNone n xs → AreNone (n + 1) (xs ++ x ∷ [])
-one_more n xs x e h = record { counted = longer xs x ∙ ap (λ m. m + 1) h.counted; none = push_none xs x e h.none }
-  where
-    longer : (xs : List (Vec Bool Global)) (x : Vec Bool Global) → length (xs ++ x ∷ []) ≡ length xs + 1
-    longer [] x = refl
-    longer (y ∷ ys) x = let k = longer ys x in grind arith
-
 -- ---- at the start
 
 nothing_over : (kind : Kind) → has_capacity kind ≡ true → spurns kind 0 ≡ false
-nothing_over Rendezvous e = refl
-nothing_over (Buffered k) e = refl
-nothing_over Unlimited e = refl
-nothing_over Conflated e = refl
-nothing_over (DropOldest k) e = refl
 nothing_over (DropLatest k) e = grind (arith, nat_tests)
-nothing_over Signal e = refl
+nothing_over other e = refl
 
 past : {X : Type 0} (xs : List X) (c : ℕ) (d : X) → length xs ≤ c → slice_index_or xs c d ≡ d
 past [] c d le = refl
@@ -122,15 +99,6 @@ fresh_overs kinds floor xs is nothing all none = record {
       ∙ ap (λ es. spurns (kind_at kinds c) ((replay es).stood c p)) nothing ∙ none_over kinds c all);
 }
 
--- ---- what an act removes
-
-pub told_is : (old : Floor) (mid : ListFloor) (act : Act) (b : Bool) (xs : List (Vec Bool Global)) → HasRoom 1 old (floor_of mid)
-    → AreOvers old xs → TellsOver xs act b → ToldOver mid act b
-told_is old mid (Spurn c p v) b xs room are tells =
-    tells ∙ are.bits c p ∙ ap (λ (s : Shape). spurns (kind_at s c) ((replay old.seen).stood c p)) (sym room.same.shape)
-    ∙ ap (λ es. spurns (kind_at (floor_of mid).shape c) ((replay es).stood c p)) (sym room.seen)
-told_is old mid other b xs room are tells = tt
-
 -- ---- after an act
 
 first_stood : (rs : List Receiver) (how : ℕ → Resolution) (s : State) → (resolve_first rs how s).stood ≡ s.stood
@@ -152,11 +120,7 @@ removed_stood c (o ∷ os) s = refl
 never_over : (kind : Kind) (n : ℕ) → suspends kind ≡ true → spurns kind n ≡ false
 never_over Rendezvous n e = refl
 never_over (Buffered k) n e = refl
-never_over Unlimited n e = cc
-never_over Conflated n e = cc
-never_over (DropOldest k) n e = cc
-never_over (DropLatest k) n e = cc
-never_over Signal n e = cc
+never_over other n e = cc
 
 Bits : Shape → State → List (Vec Bool Global) → Type 0
 Bits shape s xs = (d q : ℕ) → over_in xs d q ≡ spurns (kind_at shape d) (s.stood d q)

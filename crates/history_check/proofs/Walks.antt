@@ -12,7 +12,6 @@ use Rattle.channel_model.specs.Needs.{Needs}
 use Rattle.channel_model.specs.Steps.{may_come}
 use Rattle.channel_model.proofs.Histories.{LegalFrom-parts}
 use Rattle.one_thread_floor.proofs.ListMay.{may_of}
-use Rattle.job_model.specs.declared.acts.JobEntry.{JobEntry}
 use Rattle.job_model.specs.Histories as of_jobs
 use Rattle.job_model.specs.Trees as trees
 use Rattle.job_replay.specs.declared.replay.JobReplay.{JobReplay}
@@ -21,7 +20,7 @@ use Rattle.job_replay.specs.Sizes.{shape_of as job_shape}
 use Rattle.note_book.specs.declared.book.Item.{Item}
 use Rattle.note_book.specs.declared.book.Item.TheVariants as item
 use Rattle.note_book.specs.Items.{channel_act}
-use Rattle.call_meaning.specs.Facts.{ChannelNoteHolds, NoteHolds}
+use Rattle.call_meaning.specs.Facts.{ChannelNoteHolds}
 use Rattle.history_text.specs.declared.line.Line.{Line}
 use Rattle.history_check.specs.Histories.{AreSo, IsAllowed, IsSo, entries_of, entry_by, entry_of, job_entries_of, job_entry_of}
 use Rattle.history_check.specs.declared.verdict.Step.{Step}
@@ -42,11 +41,6 @@ pub record Walked (shape : Shape) (jobs : trees.Shape) (lines : List Line) (numb
   pub legal_jobs : of_jobs.Legal jobs (job_entries_of before)
   pub tree_is : IsTree (of_jobs.replay (job_entries_of before)) tree
   pub so : AreSo shape [] before
-
--- the number of the next line is one above that of the lines before it
-pub few_lines : (shape : Shape) (jobs : trees.Shape) (lines : List Line) (n : ℕ) (rest : List Line) (floor : Floor) (tree : JobReplay)
-    → Walked shape jobs lines n rest floor tree → n + length rest ≡ length lines + 1
-few_lines shape jobs lines n rest floor tree w = omega (arith, w.numbered, ap length w.split, length-append w.before rest)
 
 -- ---- entries of lines
 
@@ -244,12 +238,6 @@ passed shape jobs lines n rest floor tree w l = record {
   legal_jobs = w.legal_jobs;
   so = w.so;
 }
-
-pub ended : (shape : Shape) (jobs : trees.Shape) (lines : List Line) (n : ℕ) (rest : List Line) (floor : Floor) (tree : JobReplay)
-    → Walked shape jobs lines n rest floor tree → length rest ≡ 0 → Legal floor.shape floor.seen → IsAllowed shape jobs lines
-ended shape jobs lines n [] floor tree w e l =
-    subst (IsAllowed shape jobs) (sym (w.split ∙ append-nil w.before)) (passed shape jobs lines n [] floor tree w l)
-ended shape jobs lines n (line ∷ rest) floor tree w e l = absurd (omega (arith, e))
 
 may_not : (shape : Shape) (jobs : trees.Shape) (before : List Line) (who : ℕ) (i : Item) (old new : Floor) (tree tree' : JobReplay)
     → old.shape ≡ shape → old.seen ≡ entries_of before → job_shape tree.size ≡ jobs

@@ -23,20 +23,15 @@ use Rattle.job_model.proofs.Families.{attached_now, changed_here, finished_ended
 body_goes : (s : JobState) → is_new s ≡ false → (is_bodiless s ≡ true → true ≡ false) → EndsBodyFrom s (state_after_body s)
 body_goes New n b = cc
 body_goes Active n b = refl
-body_goes Completing n b = let k : true ≡ false = b refl in cc
 body_goes Cancelling n b = refl
-body_goes Cancelled n b = let k : true ≡ false = b refl in cc
-body_goes Completed n b = let k : true ≡ false = b refl in cc
+body_goes other n b = let k : true ≡ false = b refl in cc
 
 end_goes : (s : JobState) (j : Job) (end : End) → end_of s j ≡ Some end → FinishesFrom end s (state_of_end end)
-end_goes New j end e = cc
-end_goes Active j end e = cc
 end_goes Completing j end e = let k : ends.Completed j.value ≡ end = cc
     in subst (λ x. FinishesFrom x Completing (state_of_end x)) k (refl, refl)
 end_goes Cancelling j end e = let k : ends.Cancelled j.cause ≡ end = cc
     in subst (λ x. FinishesFrom x Cancelling (state_of_end x)) k (refl, refl)
-end_goes Cancelled j end e = cc
-end_goes Completed j end e = cc
+end_goes other j end e = cc
 
 start_takes : (r : ℕ) (x : Option Job) → state_of x ≡ Some New → ActTakes (Start r) (state_of x) (state_of (option_map started x))
 start_takes r None e = cc

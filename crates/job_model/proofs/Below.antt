@@ -3,7 +3,7 @@ use Rattle.std.specs.Prelude.{◌≡◌, ℕ, Bool, true, false, List, Option, S
 use mathlib.Core.List.{IsPrefix}
 use Rattle.std.proofs.Common.{sym, ap, ◌∙◌}
 use Rattle.job_model.specs.declared.acts.JobState.{JobState}
-use Rattle.job_model.specs.declared.acts.JobState.TheVariants.{New, Active, Completing, Cancelling, Cancelled, Completed}
+use Rattle.job_model.specs.declared.acts.JobState.TheVariants.{New, Cancelling, Cancelled, Completed}
 use Rattle.job_model.specs.declared.acts.End.{End}
 use Rattle.job_model.specs.declared.acts.End.TheVariants as ends
 use Rattle.job_model.specs.declared.acts.JobEntry.{JobEntry}
@@ -29,12 +29,10 @@ past_new : (s : JobState) → s ≡ New → is_cancellable s ≡ false → ⊥
 past_new s e h = let k : is_cancellable New ≡ false = ap is_cancellable (sym e) ∙ h in cc
 
 past_body : (s : JobState) → is_cancellable s ≡ false → is_cancellable (state_after_body s) ≡ false
-past_body New e = cc
-past_body Active e = cc
-past_body Completing e = cc
 past_body Cancelling e = refl
 past_body Cancelled e = refl
 past_body Completed e = refl
+past_body other e = cc
 
 past_end : (end : End) → is_cancellable (state_of_end end) ≡ false
 past_end (ends.Completed v) = refl
@@ -56,12 +54,8 @@ cancelling_lasts = record {
 
 must_be_cancelled : (s : JobState) (cancelled : Bool) → is_cancellable s ≡ false → is_ended s ≡ false → is_cancelling s ≡ cancelled
     → cancelled ≡ true
-must_be_cancelled New cancelled c e k = cc
-must_be_cancelled Active cancelled c e k = cc
-must_be_cancelled Completing cancelled c e k = cc
 must_be_cancelled Cancelling cancelled c e k = sym k
-must_be_cancelled Cancelled cancelled c e k = cc
-must_be_cancelled Completed cancelled c e k = cc
+must_be_cancelled other cancelled c e k = cc
 
 -- a child of a Job that is Cancelling or ended is cancelled at once
 pub child_cancelled : (x : Option Job) (cancelled : Bool) → IsCancellingOrEnded x → MayHaveChild cancelled x → cancelled ≡ true

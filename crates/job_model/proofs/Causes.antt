@@ -10,7 +10,7 @@ use Rattle.job_model.specs.declared.acts.Cause.TheVariants as because
 use Rattle.job_model.specs.declared.acts.End.{End}
 use Rattle.job_model.specs.declared.acts.End.TheVariants as ends
 use Rattle.job_model.specs.declared.acts.JobAct.{JobAct}
-use Rattle.job_model.specs.declared.acts.JobAct.TheVariants.{Attach, Start, EndBody, Cancel, Finish, Gone}
+use Rattle.job_model.specs.declared.acts.JobAct.TheVariants.{Attach, Cancel}
 use Rattle.job_model.specs.declared.acts.JobEntry.{JobEntry}
 use Rattle.job_model.specs.Trees.{Shape, Job, Tree, start, is_cancelled, is_cancellable}
 use Rattle.job_model.specs.Acts.{attaches, cancels}
@@ -33,20 +33,15 @@ body_keeps New = refl
 body_keeps other = refl
 
 not_cancelled : (s : JobState) → is_cancellable s ≡ true → is_cancelled s ≡ false
-not_cancelled New e = refl
-not_cancelled Active e = refl
-not_cancelled Completing e = refl
 not_cancelled Cancelling e = cc
 not_cancelled Cancelled e = cc
 not_cancelled Completed e = cc
+not_cancelled other e = refl
 
 end_keeps : (s : JobState) (j : Job) (end : End) → end_of s j ≡ Some end → is_cancelled (state_of_end end) ≡ is_cancelled s
-end_keeps New j end e = cc
-end_keeps Active j end e = cc
 end_keeps Completing j end e = let k : ends.Completed j.value ≡ end = cc in ap (λ x. is_cancelled (state_of_end x)) (sym k)
 end_keeps Cancelling j end e = let k : ends.Cancelled j.cause ≡ end = cc in ap (λ x. is_cancelled (state_of_end x)) (sym k)
-end_keeps Cancelled j end e = cc
-end_keeps Completed j end e = cc
+end_keeps other j end e = cc
 
 or_none : (x : Option Cause) → x ≡ option_or x None
 or_none None = refl
@@ -58,11 +53,8 @@ keeps_state b c cause e = ap (λ d. if d then Some cause else None) e ∙ or_non
 nothing_given : (q : ℕ) (tree : Tree) (act : JobAct) → attaches q act ≡ false → cancels q act ≡ false → cause_given q tree act ≡ None
 nothing_given q tree (Attach p r kind tag cancelled) a c =
     ap (λ b. if b then (if cancelled then Some because.Request else None) else None) a
-nothing_given q tree (Start r) a c = refl
-nothing_given q tree (EndBody r v) a c = refl
 nothing_given q tree (Cancel r reason) a c = ap (λ b. if b then Some (cause_of_reason tree reason) else None) c
-nothing_given q tree (Finish r end) a c = refl
-nothing_given q tree (Gone r) a c = refl
+nothing_given q tree other a c = refl
 
 -- the new child is another row
 other_row : (tree : Tree) (q r : ℕ) (j : Job) → tree q ≡ Some j → tree r ≡ None → (q == r) ≡ false

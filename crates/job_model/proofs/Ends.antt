@@ -2,8 +2,8 @@
 use Rattle.std.specs.Prelude.{◌≡◌, ℕ, ◌==◌, Bool, true, false, not, ◌||◌, List, [], ◌∷◌, ◌++◌, filter, Option, Some, None, option_map, is_some, if◌then◌else◌, refl}
 use Rattle.std.proofs.Common.{sym, ap, ◌∙◌, subst}
 use Rattle.std.proofs.Math.Bool.{or_assoc}
-use Rattle.std.proofs.lemmas.Bool.{eqb-true}
-use Rattle.job_model.specs.declared.acts.JobState.TheVariants.{New, Active, Completing, Cancelling, Cancelled, Completed}
+use Rattle.std.proofs.lemmas.Bool.{eqb-true, not-false}
+use Rattle.job_model.specs.declared.acts.JobState.TheVariants.{Cancelled, Completed}
 use Rattle.job_model.specs.declared.acts.JobState.{JobState}
 use Rattle.job_model.specs.declared.acts.End.{End}
 use Rattle.job_model.specs.declared.acts.End.TheVariants as ends
@@ -25,6 +25,7 @@ use Rattle.job_model.proofs.Rows.{same}
 use Rattle.job_model.proofs.Marks.{IsMark, attach_mark}
 use Rattle.job_model.proofs.RowMarks.{body_mark, finish_mark, tell_mark}
 use Rattle.job_model.proofs.Claims.{attached_was}
+use Rattle.job_model.proofs.Spans.{or_nothing}
 
 -- ---- by entries
 
@@ -40,15 +41,11 @@ true_or false true c h k l = k refl
 true_or false false true h k l = sym (l refl refl)
 true_or false false false h k l = refl
 
-or_false : (a : Bool) → a ≡ (a || false)
-or_false true = refl
-or_false false = refl
-
 marked_from : (acts : ℕ → JobAct → Bool) (mark : Tree → ℕ → Bool) → IsOnlyMark acts mark
     → (shape : Shape) (tree : Tree) (es : List JobEntry) (r : ℕ) → HasFamilies tree → LegalFrom shape tree es
     → mark (replay_from tree es) r ≡ (mark tree r || has acts r es)
 unfolding LegalFrom replay_from
-marked_from acts mark k shape tree [] r h l = or_false (mark tree r)
+marked_from acts mark k shape tree [] r h l = or_nothing (mark tree r)
 marked_from acts mark k shape tree (e ∷ es) r h l =
     marked_from acts mark k shape (after tree e.who e.act) es r (after_families shape tree e.who e.act l.0 h) l.1
     ∙ ap (λ b. b || has acts r es) (true_or (mark tree r) (acts r e.act) (mark (after tree e.who e.act) r)
@@ -70,29 +67,24 @@ body_only shape tree who q _ _ _ (RowStep.body_ends v j m) h e = absurd (let k :
 body_only shape tree who q _ _ _ (RowStep.is_cancelled reason j m o) h e = h
 body_only shape tree who q _ _ _ other h e = h
 
-not_first : (cancelled lazy : Bool) → is_ended (first_state cancelled lazy) ≡ true → ⊥
+pub not_first : (cancelled lazy : Bool) → is_ended (first_state cancelled lazy) ≡ true → ⊥
 not_first true lazy e = cc
 not_first false true e = cc
 not_first false false e = cc
 
-ended_before_body : (s : JobState) → is_ended (state_after_body s) ≡ true → is_ended s ≡ true
-ended_before_body New e = cc
-ended_before_body Active e = cc
-ended_before_body Completing e = cc
-ended_before_body Cancelling e = cc
+pub ended_before_body : (s : JobState) → is_ended (state_after_body s) ≡ true → is_ended s ≡ true
 ended_before_body Cancelled e = refl
 ended_before_body Completed e = refl
+ended_before_body other e = cc
 
 end_only : (shape : Shape) (tree : Tree) (who q : ℕ) (act : JobAct) (x y : Option Job) → RowStep shape tree who q act x y
     → has_ended y ≡ true → finishes q act ≡ false → has_ended x ≡ true
 end_only shape tree who q _ _ _ (RowStep.is_attached p kind tag cancelled m i) h e = absurd (not_first cancelled kind.lazy h)
-end_only shape tree who q _ _ _ (RowStep.has_child r kind tag cancelled j none m) h e = h
 end_only shape tree who q _ _ _ (RowStep.is_started j n) h e = cc
 end_only shape tree who q _ _ _ (RowStep.body_ends v j m) h e = ended_before_body j.state h
 end_only shape tree who q _ _ _ (RowStep.is_cancelled reason j m o) h e = cc
 end_only shape tree who q _ _ _ (RowStep.ends end j m) h e = absurd (let k : true ≡ false = sym (same q) ∙ e in cc)
-end_only shape tree who q _ _ _ (RowStep.is_told d j m p) h e = h
-end_only shape tree who q _ _ _ (RowStep.stays act x a b c d f) h e = h
+end_only shape tree who q _ _ _ other h e = h
 
 pub told_only : (shape : Shape) (tree : Tree) (who : ℕ) (act : JobAct) (r : ℕ) → HasFamilies tree → Needs shape tree who act
     → (o : Option ℕ) → parent_of (after tree who act r) ≡ o → was_told r (row_of (after tree who act) o) ≡ true → tells r act ≡ false
@@ -139,7 +131,7 @@ start_attached r = by_test (r == 0)
     by_test true = refl
     by_test false = refl
 
-start_told : (r : ℕ) (o : Option ℕ) → was_told r (row_of start o) ≡ false
+pub start_told : (r : ℕ) (o : Option ℕ) → was_told r (row_of start o) ≡ false
 start_told r None = refl
 start_told r (Some p) = at_start (λ x. was_told r x ≡ false) refl refl p
 
@@ -172,12 +164,8 @@ nothing_lives f c (x ∷ xs) n a = by_test (f x) refl n (λ k m. nothing_lives f
 
 told_of_childless : (c : ℕ) (x : Option Job) → IsEnded x → IsSoundRow x → is_among c (children_of x) ≡ true → was_told c x ≡ true
 told_of_childless c None e h a = absurd e
-told_of_childless c (Some j) e h a = was_true (is_among c j.told)
+told_of_childless c (Some j) e h a = not-false (is_among c j.told)
     (nothing_lives (λ d. not (is_among d j.told)) c j.children (h.childless e) a)
-  where
-    was_true : (b : Bool) → not b ≡ false → b ≡ true
-    was_true true k = refl
-    was_true false k = cc
 
 -- a child of an ended Job has ended
 pub child_ended : (tree : Tree) (p c : ℕ) → HasFamilies tree → IsEnded (tree p) → parent_of (tree c) ≡ Some p → IsEnded (tree c)
@@ -213,7 +201,7 @@ finished_now who end None m = absurd m
 finished_now who (ends.Completed v) (Some j) m = refl
 finished_now who (ends.Cancelled cause) (Some j) m = refl
 
-ended_is : (x : Option Job) → IsEnded x → has_ended x ≡ true
+pub ended_is : (x : Option Job) → IsEnded x → has_ended x ≡ true
 ended_is None e = absurd e
 ended_is (Some j) e = e
 
@@ -222,13 +210,9 @@ child_before : (tree : Tree) (p c : ℕ) (end : End) → HasFamilies tree → Ma
     → IsEnded (tree c)
 child_before tree p c end h m q = h.gone p c (told_of_done c (tree p) m (h.listed p c q))
   where
-    was_true : (b : Bool) → not b ≡ false → b ≡ true
-    was_true true k = refl
-    was_true false k = cc
-
     told_of_done : (c : ℕ) (x : Option Job) → MayFinish end x → is_among c (children_of x) ≡ true → was_told c x ≡ true
     told_of_done c None m a = absurd m
-    told_of_done c (Some j) m a = was_true (is_among c j.told) (nothing_lives (λ d. not (is_among d j.told)) c j.children m.1 a)
+    told_of_done c (Some j) m a = not-false (is_among c j.told) (nothing_lives (λ d. not (is_among d j.told)) c j.children m.1 a)
 
 pub children_first : (shape : Shape) (xs ys : List JobEntry) (who p c : ℕ) (end : End)
     → Legal shape (xs ++ record { who = who; act = Finish p end } ∷ ys)

@@ -3,7 +3,7 @@ use Rattle.std.specs.Prelude.{◌≡◌, ℕ, Bool, false, List, [], ◌∷◌, 
 use mathlib.Core.List.{IsPrefix}
 use Rattle.job_model.specs.declared.acts.JobKind.{JobKind}
 use Rattle.job_model.specs.declared.acts.JobAct.{JobAct}
-use Rattle.job_model.specs.declared.acts.JobAct.TheVariants.{Attach, Start, EndBody, Cancel, Finish, Gone}
+use Rattle.job_model.specs.declared.acts.JobAct.TheVariants.{Cancel}
 use Rattle.job_model.specs.declared.acts.JobEntry.{JobEntry}
 use Rattle.job_model.specs.Trees.{Shape, kind_of}
 use Rattle.job_model.specs.Histories.{replay, Legal}
@@ -17,12 +17,8 @@ use Rattle.job_model.proofs.Below.{below_kept}
 
 cancel_below_kept : (shape : Shape) (xs ys : List JobEntry) (row : ℕ) (act : JobAct) → Legal shape ys → IsPrefix xs ys
     → IsCancelBelow (replay xs) row act → IsCancelBelow (replay ys) row act
-cancel_below_kept shape xs ys row (Attach p q kind tag cancelled) l p' h = absurd h
-cancel_below_kept shape xs ys row (Start q) l p' h = absurd h
-cancel_below_kept shape xs ys row (EndBody q v) l p' h = absurd h
 cancel_below_kept shape xs ys row (Cancel q reason) l p' h = (h.0, below_kept shape xs ys row q l p' h.1)
-cancel_below_kept shape xs ys row (Finish q end) l p' h = absurd h
-cancel_below_kept shape xs ys row (Gone q) l p' h = absurd h
+cancel_below_kept shape xs ys row other l p' h = absurd h
 
 pub cancels_below_kept : (shape : Shape) (xs ys : List JobEntry) (row : ℕ) (acts : List JobAct) → Legal shape ys → IsPrefix xs ys
     → AreCancelsBelow (replay xs) row acts → AreCancelsBelow (replay ys) row acts

@@ -1,7 +1,7 @@
 -- Children in the order in which they were attached, each of a third of the weight of the one before.
 use Rattle.std.specs.Prelude.{◌≡◌, ℕ, ◌*◌, ◌==◌, ◌≤◌, Bool, true, false, ◌||◌, List, [], ◌∷◌, ◌++◌, Some, None, if◌then◌else◌, refl}
 use Rattle.std.proofs.Common.{sym, ap, ◌∙◌, subst, arith}
-use Rattle.std.proofs.lemmas.Bool.{eqb-true, eq-eqb}
+use Rattle.std.proofs.lemmas.Bool.{eqb-true, eq-eqb, or_right}
 use Rattle.job_model.specs.Trees.{is_among}
 use Rattle.job_model.specs.Families.{newest, newest_after, older, older_after}
 use Rattle.job_model.proofs.Rows.{same}
@@ -49,11 +49,7 @@ newest_alone w c (d ∷ ds) e f h le =
 
 newest_among : (c : ℕ) (ds : List ℕ) → is_among (newest_after c ds) (c ∷ ds) ≡ true
 newest_among c [] = ap (λ b. b || false) (same c)
-newest_among c (d ∷ ds) = or_right (newest_after d ds == c) (newest_among d ds)
-  where
-    or_right : (b : Bool) {x : Bool} → x ≡ true → (b || x) ≡ true
-    or_right true h = refl
-    or_right false h = h
+newest_among c (d ∷ ds) = or_right (newest_after d ds == c) _ (newest_among d ds)
 
 -- the newest child is one of them, and none is as light
 pub record IsLightest (w : ℕ → ℕ) (cs : List ℕ) (c : ℕ) : Type 0 where
@@ -84,10 +80,6 @@ older_next w b (x ∷ xs) c d f h = by_test (c == x) refl h (older_next w x xs c
 
     too_heavy : (a b d x : ℕ) → a ≡ b → a ≤ d → d ≤ x → 1 ≤ x → 3 * x ≤ b → ⊥
     too_heavy a b d x p q r s t = omega arith
-
-    or_right : (b x : Bool) → x ≡ true → (b || x) ≡ true
-    or_right true x h = refl
-    or_right false x h = h
 
     at_most : (e : ℕ) → is_among e (x ∷ xs) ≡ true → w e ≤ w x
     at_most e a = among_cases _ e x xs a (λ k. subst (λ z. w z ≤ w x) (sym k) (omega arith)) (λ k. let r = falling_light w (w x) xs e f.2 k
@@ -159,10 +151,6 @@ falling_push w m (c ∷ cs) r f one le h = (
   falling_push w (w c) cs r f.2 one (h c (ap (λ b. b || is_among c cs) (same c)))
       (λ e a. h e (or_right (e == c) (is_among e cs) a)),
 )
-  where
-    or_right : (b x : Bool) → x ≡ true → (b || x) ≡ true
-    or_right true x h = refl
-    or_right false x h = h
 
 -- the same weights, the same order
 pub falling_same : (w v : ℕ → ℕ) (m n : ℕ) (cs : List ℕ) → m ≡ n → ((c : ℕ) → is_among c cs ≡ true → v c ≡ w c) → IsFalling w m cs
@@ -177,7 +165,3 @@ falling_same w v m n (c ∷ cs) e h f =
   where
     at_most : (a b m n : ℕ) → b ≡ a → m ≡ n → 3 * a ≤ m → 3 * b ≤ n
     at_most a b m n p q r = omega arith
-
-    or_right : (b x : Bool) → x ≡ true → (b || x) ≡ true
-    or_right true x h = refl
-    or_right false x h = h

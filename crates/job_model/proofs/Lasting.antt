@@ -2,7 +2,7 @@
 use Rattle.std.specs.Prelude.{◌≡◌, ℕ, true, false, List, [], ◌∷◌, Option, Some, None, is_some, refl}
 use Rattle.std.proofs.Common.{sym, ap, ◌∙◌}
 use Rattle.job_model.specs.declared.acts.JobState.{JobState}
-use Rattle.job_model.specs.declared.acts.JobState.TheVariants.{New, Active, Completing, Cancelling, Cancelled, Completed}
+use Rattle.job_model.specs.declared.acts.JobState.TheVariants.{New, Active, Cancelled, Completed}
 use Rattle.job_model.specs.declared.acts.Cause.{Cause}
 use Rattle.job_model.specs.declared.acts.End.{End}
 use Rattle.job_model.specs.declared.acts.End.TheVariants as ends
@@ -72,12 +72,9 @@ none_ended : IsEnded None → (x : Option Job) → IsEnded x
 none_ended h x = absurd h
 
 pub ended_body : (s : JobState) → is_ended s ≡ true → is_ended (state_after_body s) ≡ true
-ended_body New e = cc
-ended_body Active e = cc
-ended_body Completing e = cc
-ended_body Cancelling e = cc
 ended_body Cancelled e = refl
 ended_body Completed e = refl
+ended_body other e = cc
 
 pub ended_not_cancellable : (s : JobState) → is_cancellable s ≡ true → is_ended s ≡ true → ⊥
 ended_not_cancellable New c e = cc

@@ -2,7 +2,7 @@
 use Rattle.std.specs.Prelude.{◌≡◌, ◌≢◌, ◌↔◌, ℕ, ◌==◌, nat_lt, nat_le, ◌<◌, ◌≤◌, Bool, true, false, not, ◌&&◌, ◌||◌, List, [], ◌∷◌, Option, Some, None, is_some, option_and_then, MatchBool, if◌then◌else◌, refl}
 use Rattle.std.specs.Bool.{Decides}
 use Rattle.std.proofs.Common.{sym, ap, ◌∙◌, arith}
-use Rattle.std.proofs.lemmas.Bool.{eqb-true, eq-eqb}
+use Rattle.std.proofs.lemmas.Bool.{eqb-true, eq-eqb, and_parts, and_from}
 use Rattle.std.proofs.lemmas.Bool.Decides.{nat_tests, Decides-eqb, Decides-ltb, Decides-and, Decides-not, not_from_Decides}
 use Rattle.job_model.specs.declared.acts.JobState.{JobState}
 use Rattle.job_model.specs.declared.acts.JobState.TheVariants.{New, Active, Cancelled, Completed}
@@ -24,32 +24,20 @@ use Rattle.job_model.specs.Steps.{is_same, is_number, is_row_for, may_have_child
 
 -- ---- tests and what they say
 
-and_left : (a b : Bool) → (a && b) ≡ true → a ≡ true
-and_left true b e = refl
-and_left false b e = cc
-
-and_right : (a b : Bool) → (a && b) ≡ true → b ≡ true
-and_right true b e = e
-and_right false b e = cc
-
-both_true : (a b : Bool) → a ≡ true → b ≡ true → (a && b) ≡ true
-both_true true b e f = f
-both_true false b e f = cc
-
 three : {P Q R : Type 0} (a b c : Bool) → Decides a P → Decides b Q → Decides c R → Decides (a && (b && c)) (P × Q × R)
 three a b c p q r = (
-  λ e. (p.0 (and_left a (b && c) e), q.0 (and_left b c (and_right a (b && c) e)), r.0 (and_right b c (and_right a (b && c) e))),
-  λ h. both_true a (b && c) (p.1 h.0) (both_true b c (q.1 h.1) (r.1 h.2)),
+  λ e. (p.0 (and_parts a (b && c) e).0, q.0 (and_parts b c (and_parts a (b && c) e).1).0, r.0 (and_parts b c (and_parts a (b && c) e).1).1),
+  λ h. and_from a (b && c) (p.1 h.0) (and_from b c (q.1 h.1) (r.1 h.2)),
 )
 
 four : {P Q R S : Type 0} (a b c d : Bool) → Decides a P → Decides b Q → Decides c R → Decides d S
     → Decides (a && (b && (c && d))) (P × Q × R × S)
 four a b c d p q r s = (
   λ e.
-      let f = and_right a (b && (c && d)) e in
-      let g = and_right b (c && d) f in
-      (p.0 (and_left a (b && (c && d)) e), q.0 (and_left b (c && d) f), r.0 (and_left c d g), s.0 (and_right c d g)),
-  λ h. both_true a (b && (c && d)) (p.1 h.0) (both_true b (c && d) (q.1 h.1) (both_true c d (r.1 h.2) (s.1 h.3))),
+      let f = (and_parts a (b && (c && d)) e).1 in
+      let g = (and_parts b (c && d) f).1 in
+      (p.0 (and_parts a (b && (c && d)) e).0, q.0 (and_parts b (c && d) f).0, r.0 (and_parts c d g).0, s.0 (and_parts c d g).1),
+  λ h. and_from a (b && (c && d)) (p.1 h.0) (and_from b (c && d) (q.1 h.1) (and_from c d (r.1 h.2) (s.1 h.3))),
 )
 
 is_true : (b : Bool) → Decides b (b ≡ true)
@@ -115,13 +103,12 @@ cancel_is : (x : Option Job) → Decides (may_be_cancelled x) (MayBeCancelled x)
 cancel_is None = (λ e. cc, λ h. absurd h)
 cancel_is (Some j) = (λ e. e, λ e. e)
 
-cause_is : (c d : Cause) → Decides (same_cause c d) (c ≡ d)
+pub cause_is : (c d : Cause) → Decides (same_cause c d) (c ≡ d)
 cause_is because.None because.None = (λ e. refl, λ e. refl)
 cause_is because.None because.Request = (λ e. cc, λ e. cc)
 cause_is because.None (because.Failure g) = (λ e. cc, λ e. cc)
-cause_is because.Request because.None = (λ e. cc, λ e. cc)
 cause_is because.Request because.Request = (λ e. refl, λ e. refl)
-cause_is because.Request (because.Failure g) = (λ e. cc, λ e. cc)
+cause_is because.Request other = (λ e. cc, λ e. cc)
 cause_is (because.Failure f) because.None = (λ e. cc, λ e. cc)
 cause_is (because.Failure f) because.Request = (λ e. cc, λ e. cc)
 cause_is (because.Failure f) (because.Failure g) = (
@@ -129,7 +116,7 @@ cause_is (because.Failure f) (because.Failure g) = (
   λ e. eq-eqb f g (let k : f ≡ g = cc in k),
 )
 
-end_is : (e f : End) → Decides (same_end e f) (e ≡ f)
+pub end_is : (e f : End) → Decides (same_end e f) (e ≡ f)
 end_is (ends.Completed v) (ends.Completed w) = (λ e. ap (λ u. ends.Completed u) (eqb-true v w e), λ e. eq-eqb v w (let k : v ≡ w = cc in k))
 end_is (ends.Completed v) (ends.Cancelled d) = (λ e. cc, λ e. cc)
 end_is (ends.Cancelled c) (ends.Completed w) = (λ e. cc, λ e. cc)
@@ -138,7 +125,7 @@ end_is (ends.Cancelled c) (ends.Cancelled d) = (
   λ e. (cause_is c d).1 (let k : c ≡ d = cc in k),
 )
 
-ends_so : (end : End) (o : Option End) → Decides (is_end end o) (o ≡ Some end)
+pub ends_so : (end : End) (o : Option End) → Decides (is_end end o) (o ≡ Some end)
 ends_so end None = (λ e. cc, λ e. cc)
 ends_so end (Some f) = (λ e. ap (λ u. Some u) ((end_is f end).0 e), λ e. (end_is f end).1 (let k : f ≡ end = cc in k))
 

@@ -1,11 +1,11 @@
 -- What later calls leave of a caller's own Jobs.
-use Rattle.std.specs.Prelude.{◌≡◌, ℕ, ◌==◌, Bool, true, false, ◌||◌, List, [], ◌∷◌, ◌++◌, Option, Some, None, if◌then◌else◌, refl, is_some, option_map}
+use Rattle.std.specs.Prelude.{◌≡◌, ℕ, ◌==◌, Bool, true, false, List, [], ◌∷◌, ◌++◌, Option, Some, None, if◌then◌else◌, refl, is_some, option_map}
 use Rattle.std.specs.List.{list_any}
 use mathlib.Core.List.{IsPrefix}
 use Rattle.std.proofs.Common.{sym, ap, ◌∙◌, subst}
-use Rattle.std.proofs.lemmas.Bool.{eq-eqb, eqb-true}
+use Rattle.std.proofs.lemmas.Bool.{eq-eqb, eqb-true, or_parts}
 use Rattle.job_model.specs.declared.acts.JobState.{JobState}
-use Rattle.job_model.specs.declared.acts.JobState.TheVariants.{New, Active, Completing, Cancelling, Cancelled, Completed}
+use Rattle.job_model.specs.declared.acts.JobState.TheVariants.{New, Active, Cancelling, Cancelled, Completed}
 use Rattle.job_model.specs.declared.acts.JobAct.{JobAct}
 use Rattle.job_model.specs.declared.acts.JobAct.TheVariants.{Attach, Gone}
 use Rattle.job_model.specs.declared.acts.JobEntry.{JobEntry}
@@ -45,17 +45,9 @@ none_now : (t : JobAct → Bool) (who : ℕ) (e : JobEntry) (es : List JobEntry)
 unfolding acts_of
 none_now t who e es h = by_test (e.who == who) refl h
   where
-    left_false : (a b : Bool) → (a || b) ≡ false → a ≡ false
-    left_false true b k = k
-    left_false false b k = refl
-
-    right_false : (a b : Bool) → (a || b) ≡ false → b ≡ false
-    right_false true b k = cc
-    right_false false b k = k
-
     by_test : (b : Bool) → (e.who == who) ≡ b → list_any t (if b then e.act ∷ acts_of who es else acts_of who es) ≡ false
         → (e.who ≡ who → t e.act ≡ false) × (list_any t (acts_of who es) ≡ false)
-    by_test true k m = (λ u. left_false (t e.act) (list_any t (acts_of who es)) m, right_false (t e.act) (list_any t (acts_of who es)) m)
+    by_test true k m = (λ u. (or_parts (t e.act) (list_any t (acts_of who es)) m).0, (or_parts (t e.act) (list_any t (acts_of who es)) m).1)
     by_test false k m = (λ u. absurd (let v : true ≡ false = sym (eq-eqb e.who who u) ∙ k in cc), m)
 
 own_from : (P : Tree → Type 0) (t : JobAct → Bool) (who : ℕ)
@@ -98,13 +90,11 @@ own_kept P t who step acts rows old new l a none h =
 body_step : (shape : Shape) (tree : Tree) (n who q : ℕ) (act : JobAct) (x y : Option Job) → RowStep shape tree n q act x y
     → (n ≡ who → ends_body q act ≡ false) → MayEndBody who x → MayEndBody who y
 body_step shape tree n who q _ _ _ (RowStep.is_attached p kind tag cancelled m i) k h = absurd h
-body_step shape tree n who q _ _ _ (RowStep.has_child r kind tag cancelled j none m) k h = h
 body_step shape tree n who q _ _ _ (RowStep.is_started j e) k h = (h.0, refl, h.2)
 body_step shape tree n who q _ _ _ (RowStep.body_ends v j m) k h = absurd (let u : true ≡ false = sym (same q) ∙ k (sym m.0 ∙ h.0) in cc)
 body_step shape tree n who q _ _ _ (RowStep.is_cancelled reason j m o) k h = (h.0, refl, h.2)
 body_step shape tree n who q _ _ _ (RowStep.ends end j m) k h = absurd (let u : true ≡ false = sym m.0 ∙ h.2 in cc)
-body_step shape tree n who q _ _ _ (RowStep.is_told d j m p) k h = h
-body_step shape tree n who q _ _ _ (RowStep.stays act x a b c d f) k h = h
+body_step shape tree n who q _ _ _ other k h = h
 
 -- the caller may still end a body, where its calls did not
 pub own_body_kept : (who row : ℕ) (acts : List JobAct) (rows : List ℕ) (old new : Floor) → Legal new.shape new.seen
@@ -118,13 +108,9 @@ own_body_kept who row acts rows old new l a none h =
 owned_step : (shape : Shape) (tree : Tree) (n who q : ℕ) (act : JobAct) (x y : Option Job) → RowStep shape tree n q act x y
     → (n ≡ who → ends_body q act ≡ false) → OwnsBody who x → OwnsBody who y
 owned_step shape tree n who q _ _ _ (RowStep.is_attached p kind tag cancelled m i) k h = absurd h
-owned_step shape tree n who q _ _ _ (RowStep.has_child r kind tag cancelled j none m) k h = h
-owned_step shape tree n who q _ _ _ (RowStep.is_started j e) k h = h
 owned_step shape tree n who q _ _ _ (RowStep.body_ends v j m) k h = absurd (let u : true ≡ false = sym (same q) ∙ k (sym m.0 ∙ h.0) in cc)
-owned_step shape tree n who q _ _ _ (RowStep.is_cancelled reason j m o) k h = h
 owned_step shape tree n who q _ _ _ (RowStep.ends end j m) k h = absurd (let u : true ≡ false = sym m.0 ∙ h.1 in cc)
-owned_step shape tree n who q _ _ _ (RowStep.is_told d j m p) k h = h
-owned_step shape tree n who q _ _ _ (RowStep.stays act x a b c d f) k h = h
+owned_step shape tree n who q _ _ _ other k h = h
 
 -- the body is still the caller's and has not ended, where its calls did not end it
 pub owned_body_kept : (who row : ℕ) (acts : List JobAct) (rows : List ℕ) (old new : Floor) → Legal new.shape new.seen
@@ -146,12 +132,9 @@ may_end_cancelled who None h c = absurd h
 may_end_cancelled who (Some j) h c = (h.0, past_new j.state c, h.1)
 
 running_or_cancelling : (s : JobState) → (is_bodiless s ≡ true → true ≡ false) → is_ended s ≡ false
-running_or_cancelling New b = refl
-running_or_cancelling Active b = refl
-running_or_cancelling Completing b = refl
-running_or_cancelling Cancelling b = refl
 running_or_cancelling Cancelled b = absurd (let k : true ≡ false = b refl in cc)
 running_or_cancelling Completed b = absurd (let k : true ≡ false = b refl in cc)
+running_or_cancelling other b = refl
 
 -- a Job whose body has not ended has not ended
 pub owned_not_ended : (who : ℕ) (x : Option Job) → OwnsBody who x → IsSoundRow x → has_ended x ≡ false
@@ -159,12 +142,8 @@ owned_not_ended who None h s = absurd h
 owned_not_ended who (Some j) h s = running_or_cancelling j.state (λ b. sym (s.bodiless b) ∙ h.1)
 
 still_cancelling : (s : JobState) → is_cancellable s ≡ false → is_ended s ≡ false → s ≡ Cancelling
-still_cancelling New c e = cc
-still_cancelling Active c e = cc
-still_cancelling Completing c e = cc
 still_cancelling Cancelling c e = refl
-still_cancelling Cancelled c e = cc
-still_cancelling Completed c e = cc
+still_cancelling other c e = cc
 
 -- it is Cancelling where it is Cancelling or ended
 pub owned_cancelling : (who : ℕ) (x : Option Job) → OwnsBody who x → IsSoundRow x → IsCancellingOrEnded x → state_of x ≡ Some Cancelling
@@ -176,14 +155,9 @@ owned_cancelling who (Some j) h s c = ap (λ (t : JobState). Some t) (still_canc
 finisher_step : (shape : Shape) (tree : Tree) (n who q : ℕ) (act : JobAct) (x y : Option Job) → RowStep shape tree n q act x y → IsEnded x
     → IsFinishedBy who x → IsFinishedBy who y
 finisher_step shape tree n who q _ _ _ (RowStep.is_attached p kind tag cancelled m i) e h = absurd h
-finisher_step shape tree n who q _ _ _ (RowStep.has_child r kind tag cancelled j none m) e h = h
-finisher_step shape tree n who q _ _ _ (RowStep.is_started j k) e h = h
-finisher_step shape tree n who q _ _ _ (RowStep.body_ends v j m) e h = h
-finisher_step shape tree n who q _ _ _ (RowStep.is_cancelled reason j m o) e h = h
 finisher_step shape tree n who q _ _ _ (RowStep.ends end j m) e h =
     absurd (let u : true ≡ false = sym e ∙ live_before j.state j end m.2 in cc)
-finisher_step shape tree n who q _ _ _ (RowStep.is_told d j m p) e h = h
-finisher_step shape tree n who q _ _ _ (RowStep.stays act x a b c d f) e h = h
+finisher_step shape tree n who q _ _ _ other e h = h
 
 -- the test of a Gone of this row
 gone_names : (r : ℕ) (act : JobAct) (P : Type 0) → tells r act ≡ true → ((q : ℕ) → act ≡ Gone q → r ≡ q → P) → P

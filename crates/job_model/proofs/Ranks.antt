@@ -117,11 +117,11 @@ parent_attached : (x : Option Job) (cancelled : Bool) → MayHaveChild cancelled
 parent_attached None cancelled m = absurd m
 parent_attached (Some j) cancelled m = refl
 
-has_parent : (x : Option Job) (p : ℕ) → parent_of x ≡ Some p → is_some x ≡ true
+pub has_parent : (x : Option Job) (p : ℕ) → parent_of x ≡ Some p → is_some x ≡ true
 has_parent None p e = cc
 has_parent (Some j) p e = refl
 
-has_children : (x : Option Job) (c : ℕ) → is_among c (children_of x) ≡ true → is_some x ≡ true
+pub has_children : (x : Option Job) (c : ℕ) → is_among c (children_of x) ≡ true → is_some x ≡ true
 has_children None c e = cc
 has_children (Some j) c e = refl
 

@@ -1,20 +1,21 @@
 -- A reason that holds goes on to hold.
-use Rattle.std.specs.Prelude.{◌≡◌, ℕ, zero, suc, ◌==◌, Bool, true, false, ◌&&◌, ◌||◌, List, ◌++◌, Option, Some, None, is_some, refl}
+use Rattle.std.specs.Prelude.{◌≡◌, ℕ, zero, suc, ◌==◌, Bool, true, false, ◌||◌, List, ◌++◌, Option, Some, None, is_some, refl}
 use Rattle.std.proofs.Common.{sym, ap, ◌∙◌, subst}
+use Rattle.std.proofs.lemmas.Bool.{and_parts, and_from}
 use Rattle.job_model.specs.declared.acts.JobState.{JobState}
 use Rattle.job_model.specs.declared.acts.JobState.TheVariants.{New}
 use Rattle.job_model.specs.declared.acts.Reason.{Reason}
 use Rattle.job_model.specs.declared.acts.Reason.TheVariants as reasons
 use Rattle.job_model.specs.declared.acts.JobEntry.{JobEntry}
-use Rattle.job_model.specs.Trees.{Shape, Job, Tree, is_cancelled, is_cancellable, is_ended, is_failure_of, is_supervisor, is_among, parent_of, parent_row, row_of}
+use Rattle.job_model.specs.Trees.{Shape, Job, Tree, is_cancelled, is_cancellable, is_ended, is_failure_of, is_supervisor, parent_of, parent_row, row_of}
 use Rattle.job_model.specs.Needs.{IsCancelled, IsFailedChild, Holds, any_below, ended_by_failure}
-use Rattle.job_model.specs.Families.{children_of}
 use Rattle.job_model.specs.Histories.{replay, replay_from, Legal, LegalFrom}
 use Rattle.job_model.specs.Laws.{HasFamilies, IsSoundRow}
 use Rattle.job_model.proofs.Histories.{replay-append, Legal-append}
 use Rattle.job_model.proofs.Lasting.{Lasts, history_keeps, parent_lasts, tag_lasts, ended_body, ended_not_cancellable, new_not_ended, end_ends}
 use Rattle.job_model.proofs.Families.{replay_families}
 use Rattle.job_model.proofs.Sound.{failure_is_cause, body_cancelled, end_cancelled}
+use Rattle.job_model.proofs.RowMarks.{listed_some}
 
 -- ---- the parent is cancelled
 
@@ -75,35 +76,20 @@ plain_lasts = record {
     none : is_some {T = Job} None ≡ true → ⊥
     none e = cc
 
-listed_attached : (c : ℕ) (x : Option Job) → is_among c (children_of x) ≡ true → is_some x ≡ true
-listed_attached c None e = cc
-listed_attached c (Some j) e = refl
-
 failed_parent : (r : ℕ) (x : Option Job) → IsFailedChild r x → parent_of x ≡ Some r
 failed_parent r None f = absurd f
 failed_parent r (Some j) f = f.0
 
 -- ---- the own body fails
 
-left_of : (a b : Bool) → (a && b) ≡ true → a ≡ true
-left_of true b e = refl
-left_of false b e = e
-
-right_of : (a b : Bool) → (a && b) ≡ true → b ≡ true
-right_of true b e = e
-right_of false b e = cc
-
-both_of : (a b : Bool) → a ≡ true → b ≡ true → (a && b) ≡ true
-both_of a b e f = ap (λ c. c && b) e ∙ f
-
-failure_lasts : (f : ℕ) → Lasts (λ x. ended_by_failure f x ≡ true)
+pub failure_lasts : (f : ℕ) → Lasts (λ x. ended_by_failure f x ≡ true)
 failure_lasts f = record {
   child = λ c j live h. h;
-  start = λ j n h. absurd (new_not_ended j.state n (left_of (is_ended j.state) (is_failure_of f j.cause) h));
-  body = λ v j h. both_of _ _ (ended_body j.state (left_of (is_ended j.state) (is_failure_of f j.cause) h))
-      (right_of (is_ended j.state) (is_failure_of f j.cause) h);
-  cancel = λ cause j c h. absurd (ended_not_cancellable j.state c (left_of (is_ended j.state) (is_failure_of f j.cause) h));
-  finish = λ w end j m h. both_of _ _ (end_ends end) (right_of (is_ended j.state) (is_failure_of f j.cause) h);
+  start = λ j n h. absurd (new_not_ended j.state n (and_parts (is_ended j.state) (is_failure_of f j.cause) h).0);
+  body = λ v j h. and_from _ _ (ended_body j.state (and_parts (is_ended j.state) (is_failure_of f j.cause) h).0)
+      (and_parts (is_ended j.state) (is_failure_of f j.cause) h).1;
+  cancel = λ cause j c h. absurd (ended_not_cancellable j.state c (and_parts (is_ended j.state) (is_failure_of f j.cause) h).0);
+  finish = λ w end j m h. and_from _ _ (end_ends end) (and_parts (is_ended j.state) (is_failure_of f j.cause) h).1;
   told = λ c j h. h;
   attached = λ h x. absurd (none h);
 }
@@ -140,7 +126,7 @@ holds_from shape tree es who r reasons.Parent k l h = parent_holds shape tree es
 holds_from shape tree es who r (reasons.Child c) k l h =
     let failed = history_keeps (HasFailed r) (failed_lasts r) shape tree es c l (h.0, failed_is_cancelled r (tree c) (k.rows c) h.0) in
     let plain = history_keeps IsPlain plain_lasts shape tree es r l
-    (listed_attached c (tree r) (k.listed r c (failed_parent r (tree c) h.0)), h.1) in
+    (listed_some c (tree r) (k.listed r c (failed_parent r (tree c) h.0)), h.1) in
     (failed.0, plain.1)
 holds_from shape tree es who r (reasons.Own f) k l h = (
   history_keeps _ (tag_lasts who) shape tree es r l h.0,

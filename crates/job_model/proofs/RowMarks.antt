@@ -98,12 +98,10 @@ past_start : (s : JobState) → s ≡ New → not (is_cancellable s) ≡ true �
 past_start s e h = let k : not (is_cancellable New) ≡ true = ap (λ t. not (is_cancellable t)) (sym e) ∙ h in cc
 
 past_body : (s : JobState) → not (is_cancellable s) ≡ true → not (is_cancellable (state_after_body s)) ≡ true
-past_body New e = cc
-past_body Active e = cc
-past_body Completing e = cc
 past_body Cancelling e = refl
 past_body Cancelled e = refl
 past_body Completed e = refl
+past_body other e = cc
 
 past_end : (end : End) → not (is_cancellable (state_of_end end)) ≡ true
 past_end (ends.Completed v) = refl
@@ -162,12 +160,9 @@ finish_sets shape tree who q _ _ _ (RowStep.stays act x a b c d f) e = cc
 finish_sets shape tree who q _ _ _ other e = cc
 
 pub live_before : (s : JobState) (j : Job) (end : End) → end_of s j ≡ Some end → is_ended s ≡ false
-live_before New j end e = cc
-live_before Active j end e = cc
 live_before Completing j end e = refl
 live_before Cancelling j end e = refl
-live_before Cancelled j end e = cc
-live_before Completed j end e = cc
+live_before other j end e = cc
 
 finish_unset : (shape : Shape) (tree : Tree) (who q : ℕ) (act : JobAct) (x y : Option Job) → RowStep shape tree who q act x y
     → finishes q act ≡ true → has_ended x ≡ false
@@ -203,11 +198,11 @@ told_now : (r : ℕ) (x : Option Job) → is_some x ≡ true → was_told r (opt
 told_now r None e = cc
 told_now r (Some j) e = among_last r j.told
 
-listed_some : (r : ℕ) (x : Option Job) → is_among r (children_of x) ≡ true → is_some x ≡ true
+pub listed_some : (r : ℕ) (x : Option Job) → is_among r (children_of x) ≡ true → is_some x ≡ true
 listed_some r None e = cc
 listed_some r (Some j) e = refl
 
-finished_some : (who : ℕ) (x : Option Job) → IsFinishedBy who x → is_some x ≡ true
+pub finished_some : (who : ℕ) (x : Option Job) → IsFinishedBy who x → is_some x ≡ true
 finished_some who None f = absurd f
 finished_some who (Some j) f = refl
 

@@ -1,7 +1,7 @@
 -- Lists of rows.
 use Rattle.std.specs.Prelude.{◌≡◌, ℕ, ◌==◌, Bool, true, false, not, ◌||◌, List, [], ◌∷◌, ◌++◌, filter, if◌then◌else◌, refl}
 use Rattle.std.proofs.Common.{sym, ap, ◌∙◌, subst, arith}
-use Rattle.std.proofs.lemmas.Bool.{eqb-true}
+use Rattle.std.proofs.lemmas.Bool.{eqb-true, or_right, not-false}
 use Rattle.std.proofs.lemmas.Bool.Decides.{nat_tests}
 use Rattle.std.proofs.lemmas.List.Folds.{list_any-append}
 use Rattle.job_model.specs.Trees.{is_among, is_none_left}
@@ -19,12 +19,8 @@ among_more c r rows e = among-push c r rows ∙ ap (λ b. b || (c == r)) e
 pub same : (c : ℕ) → (c == c) ≡ true
 same c = grind (arith, nat_tests)
 
-or_true : (b : Bool) → (b || true) ≡ true
-or_true true = refl
-or_true false = refl
-
 pub among_last : (c : ℕ) (rows : List ℕ) → is_among c (rows ++ c ∷ []) ≡ true
-among_last c rows = among-push c c rows ∙ ap (λ b. is_among c rows || b) (same c) ∙ or_true (is_among c rows)
+among_last c rows = among-push c c rows ∙ ap (λ b. is_among c rows || b) (same c) ∙ or_right (is_among c rows) true refl
 
 -- what stands in a longer list stood before, or is the new one
 pub among_before : (P : Type 0) (c r : ℕ) (rows : List ℕ) → is_among c (rows ++ r ∷ []) ≡ true → (is_among c rows ≡ true → P) → (c ≡ r → P)
@@ -48,8 +44,4 @@ none_left_of_less f g (c ∷ cs) h e = by_test (f c) refl e (none_left_of_less f
     by_test false k e rest = subst (λ b. is_none_left (if b then c ∷ filter g cs else filter g cs) ≡ true) (sym (h c k)) (rest e)
 
 pub not_among_more : (c r : ℕ) (rows : List ℕ) → not (is_among c rows) ≡ false → not (is_among c (rows ++ r ∷ [])) ≡ false
-not_among_more c r rows e = ap not (among_more c r rows (was_true (is_among c rows) e))
-  where
-    was_true : (b : Bool) → not b ≡ false → b ≡ true
-    was_true true e = refl
-    was_true false e = cc
+not_among_more c r rows e = ap not (among_more c r rows (not-false (is_among c rows) e))

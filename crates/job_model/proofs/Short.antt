@@ -2,8 +2,7 @@
 use Rattle.std.specs.Prelude.{◌≡◌, ℕ, ◌+◌, ◌*◌, ◌==◌, ◌<◌, ◌≤◌, Bool, true, false, ◌&&◌, ◌||◌, List, [], ◌∷◌, length, map, Option, Some, None, MatchBool, is_some, refl}
 use Rattle.std.specs.List.{list_any, IsDistinct, AllByRecursion}
 use Rattle.std.proofs.Common.{sym, ap, ◌∙◌, arith}
-use Rattle.std.proofs.lemmas.Bool.{eqb-true, eq-eqb}
-use Rattle.std.proofs.lemmas.Bool.Decides.{nat_tests}
+use Rattle.std.proofs.lemmas.Bool.{eqb-true, eq-eqb, eqb-false}
 use Rattle.std.proofs.lemmas.Map.Steps.{length-le_from_distinct_below}
 use Rattle.job_model.specs.declared.acts.JobState.TheVariants.{New}
 use Rattle.job_model.specs.declared.acts.JobKind.{JobKind}
@@ -73,9 +72,6 @@ one_row k l q r h e = omega arith
 two_kinds : (k l q r : ℕ) → k < 6 → l < 6 → (k ≡ l → ⊥) → 6 * q + k ≡ 6 * r + l → ⊥
 two_kinds k l q r lk ll n e = omega arith
 
-not_equal : (m n : ℕ) → (m == n) ≡ false → m ≡ n → ⊥
-not_equal m n e h = grind (arith, nat_tests)
-
 -- another act, or an act on another row, has another number
 other_number : (k r : ℕ) (a : JobAct) → k < 6 → is_kind k r a ≡ false → ((6 * r + k) == number_of a) ≡ false
 other_number k r a lk e = by_number ((6 * r + k) == number_of a) refl
@@ -86,7 +82,7 @@ other_number k r a lk e = by_number ((6 * r + k) == number_of a) refl
         let same_row : r ≡ row_of_act a = one_row k (kind_of a) r (row_of_act a) same_kind h in
         let u : is_kind k r a ≡ true = ap (λ b. b && (r == row_of_act a)) f ∙ eq-eqb r (row_of_act a) same_row in
         let v : true ≡ false = sym u ∙ e in cc
-    by_kind false f h = two_kinds k (kind_of a) r (row_of_act a) lk (kind_below a) (not_equal k (kind_of a) f) h
+    by_kind false f h = two_kinds k (kind_of a) r (row_of_act a) lk (kind_below a) (eqb-false k (kind_of a) f) h
 
     by_number : (b : Bool) → ((6 * r + k) == number_of a) ≡ b → ((6 * r + k) == number_of a) ≡ false
     by_number true f = absurd (by_kind (k == kind_of a) refl (eqb-true (6 * r + k) (number_of a) f))
@@ -140,7 +136,8 @@ all_once shape tree (e ∷ es) h l = (
 abbrev AllWithin : Shape → Tree → Type 0
 AllWithin shape tree = (r : ℕ) → is_some (tree r) ≡ true → r < shape.rows
 
-row_within : (shape : Shape) (who : ℕ) (kind : JobKind) (tag r : ℕ) → IsShape shape → tag < shape.coroutines → IsRowFor shape who kind tag r
+pub row_within : (shape : Shape) (who : ℕ) (kind : JobKind) (tag r : ℕ) → IsShape shape → tag < shape.coroutines
+    → IsRowFor shape who kind tag r
     → r < shape.rows
 row_within shape who kind tag r s lt i = by_kind kind.scoped i
   where

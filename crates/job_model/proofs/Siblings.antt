@@ -4,7 +4,7 @@ use Rattle.std.specs.List.{IsDistinct, AllByRecursion}
 use Rattle.std.proofs.lemmas.List.{length-append}
 use Rattle.std.proofs.lemmas.List.Elements.{filter-append}
 use Rattle.std.proofs.Common.{sym, ap, ◌∙◌, subst, arith}
-use Rattle.std.proofs.lemmas.Bool.{eqb-true}
+use Rattle.std.proofs.lemmas.Bool.{eqb-true, or_parts}
 use Rattle.std.proofs.lemmas.Bool.Decides.{nat_tests}
 use Rattle.job_model.specs.declared.acts.JobKind.{JobKind}
 use Rattle.job_model.specs.Trees.{Job, Tree, is_among, living, parent_of, row_of, was_told}
@@ -105,14 +105,6 @@ both : (b : Bool) (x : ℕ) (l m : List ℕ) → length l + 1 ≡ length m → l
 both true x l m e = grind arith
 both false x l m e = e
 
-left_false : (a b : Bool) → (a || b) ≡ false → a ≡ false
-left_false true b e = cc
-left_false false b e = refl
-
-right_false : (a b : Bool) → (a || b) ≡ false → b ≡ false
-right_false true b e = cc
-right_false false b e = e
-
 pub kept_last : (f : ℕ → Bool) (r : ℕ) (l : List ℕ) → f r ≡ true → length (filter f (l ++ r ∷ [])) ≡ length (filter f l) + 1
 kept_last f r l e =
     ap length (filter-append f l (r ∷ [])) ∙ length-append (filter f l) (filter f (r ∷ []))
@@ -122,8 +114,8 @@ same_filter : (f g : ℕ → Bool) (c : ℕ) → ((d : ℕ) → (c == d) ≡ fal
     → filter g l ≡ filter f l
 same_filter f g c h [] e = refl
 same_filter f g c h (x ∷ xs) e =
-    ap (λ b. if b then x ∷ filter g xs else filter g xs) (h x (left_false (c == x) (is_among c xs) e))
-    ∙ ap (λ l. if f x then x ∷ l else l) (same_filter f g c h xs (right_false (c == x) (is_among c xs) e))
+    ap (λ b. if b then x ∷ filter g xs else filter g xs) (h x (or_parts (c == x) (is_among c xs) e).0)
+    ∙ ap (λ l. if f x then x ∷ l else l) (same_filter f g c h xs (or_parts (c == x) (is_among c xs) e).1)
 
 none_among : (x : ℕ) (xs : List ℕ) → AllByRecursion (λ y. (x == y) ≡ false) xs → is_among x xs ≡ false
 none_among x [] h = refl

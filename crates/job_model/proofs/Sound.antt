@@ -2,7 +2,7 @@
 use Rattle.std.specs.Prelude.{◌≡◌, ℕ, Bool, true, false, Option, Some, None, is_some, refl}
 use Rattle.std.proofs.Common.{sym, ap, ◌∙◌}
 use Rattle.job_model.specs.declared.acts.JobState.{JobState}
-use Rattle.job_model.specs.declared.acts.JobState.TheVariants.{New, Active, Completing, Cancelling, Cancelled, Completed}
+use Rattle.job_model.specs.declared.acts.JobState.TheVariants.{New, Completing, Cancelling, Cancelled, Completed}
 use Rattle.job_model.specs.declared.acts.Cause.{Cause}
 use Rattle.job_model.specs.declared.acts.Cause.TheVariants as because
 use Rattle.job_model.specs.declared.acts.Reason.{Reason}
@@ -30,13 +30,11 @@ body_ended_is : (s : JobState) → is_ended s ≡ is_ended (state_after_body s)
 body_ended_is New = refl
 body_ended_is other = refl
 
-not_ended : (s : JobState) → is_cancellable s ≡ true → is_ended s ≡ false
-not_ended New e = refl
-not_ended Active e = refl
-not_ended Completing e = refl
+pub not_ended : (s : JobState) → is_cancellable s ≡ true → is_ended s ≡ false
 not_ended Cancelling e = cc
 not_ended Cancelled e = cc
 not_ended Completed e = cc
+not_ended other e = refl
 
 not_running : (s : JobState) → is_new s ≡ false → is_running (state_after_body s) ≡ true → ⊥
 not_running New n e = cc
@@ -57,9 +55,8 @@ first_caused false true = refl
 first_caused false false = refl
 
 pub failure_is_cause : (c : Cause) → is_failure c ≡ true → is_cause c ≡ true
-failure_is_cause because.None e = cc
-failure_is_cause because.Request e = cc
 failure_is_cause (because.Failure f) e = refl
+failure_is_cause other e = cc
 
 child_cause : (q : ℕ) (x : Option Job) → IsFailedChild q x → is_cause (cause_of x) ≡ true
 child_cause q None h = absurd h
@@ -68,22 +65,17 @@ child_cause q (Some j) h = failure_is_cause j.cause h.1
 -- each reason gives a cause
 reason_caused : (shape : Shape) (tree : Tree) (who q : ℕ) (reason : Reason) → Holds shape tree who q reason
     → is_cause (cause_of_reason tree reason) ≡ true
-reason_caused shape tree who q reasons.Request h = refl
-reason_caused shape tree who q reasons.Parent h = refl
 reason_caused shape tree who q (reasons.Child c) h = child_cause q (tree c) h.0
-reason_caused shape tree who q (reasons.Own f) h = refl
+reason_caused shape tree who q other h = refl
 
 pub body_cancelled : (s : JobState) → is_cancelled s ≡ is_cancelled (state_after_body s)
 body_cancelled New = refl
 body_cancelled other = refl
 
 pub end_cancelled : (s : JobState) (j : Job) (end : End) → end_of s j ≡ Some end → is_cancelled s ≡ is_cancelled (state_of_end end)
-end_cancelled New j end e = cc
-end_cancelled Active j end e = cc
 end_cancelled Completing j end e = let k : ends.Completed j.value ≡ end = cc in ap (λ x. is_cancelled (state_of_end x)) k
 end_cancelled Cancelling j end e = let k : ends.Cancelled j.cause ≡ end = cc in ap (λ x. is_cancelled (state_of_end x)) k
-end_cancelled Cancelled j end e = cc
-end_cancelled Completed j end e = cc
+end_cancelled other j end e = cc
 
 pub step_sound : (shape : Shape) (tree : Tree) (who q : ℕ) (act : JobAct) (x y : Option Job) → RowStep shape tree who q act x y
     → IsSoundRow x → IsSoundRow y

@@ -4,18 +4,15 @@ use mathlib.Core.List.{IsPrefix}
 use Rattle.co_base.proofs.Orders.{order_then}
 use Rattle.std.proofs.Common.{sym, ap, ◌∙◌, append_assoc, arith, length-append}
 use Rattle.std.proofs.Math.Bool.{or_assoc}
-use Rattle.std.proofs.lemmas.Bool.Decides.{nat_tests}
 use Rattle.std.proofs.lemmas.List.Folds.{list_any-append}
+use Rattle.std.proofs.lemmas.Bool.{eq-eqb}
+pub use mathlib.Core.List.{append-nil as nothing_more}
 use Rattle.job_model.specs.declared.acts.JobAct.{JobAct}
 use Rattle.job_model.specs.declared.acts.JobEntry.{JobEntry}
 use Rattle.job_model.specs.Trees.{Tree, is_among}
 use Rattle.job_model.specs.Histories.{replay, acts_of}
 use Rattle.job_model.proofs.Histories.{acts_of-append}
 use Rattle.job_model.specs.Floors.{Floor, SameSetting, HasRoom, Claimed, is_claimed_by, Looked, Made, AtStep, AtMoment, AtEntry, entries_by, Added}
-
-pub nothing_more : {A : Type 0} (xs : List A) → xs ++ [] ≡ xs
-nothing_more [] = refl
-nothing_more (x ∷ xs) = ap (λ l. x ∷ l) (nothing_more xs)
 
 pub prefix_self : (xs : List JobEntry) → IsPrefix xs xs
 prefix_self xs = ([], nothing_more xs)
@@ -37,7 +34,7 @@ setting_then a b c h k = record {
 
 -- ---- claims
 
-or_nothing : (b : Bool) → b ≡ (b || false)
+pub or_nothing : (b : Bool) → b ≡ (b || false)
 or_nothing true = refl
 or_nothing false = refl
 
@@ -66,7 +63,7 @@ free_before : (x y : Option ℕ) → ((t : ℕ) → x ≡ Some t → y ≡ Some 
 free_before None y h e = refl
 free_before (Some t) y h e = absurd (let k : None ≡ Some t = sym e ∙ h t refl in cc)
 
-fresh_either : (P : Type 0) (a b : Bool) → (a || b) ≡ true → (a ≡ true → P) → (b ≡ true → P) → P
+pub fresh_either : (P : Type 0) (a b : Bool) → (a || b) ≡ true → (a ≡ true → P) → (b ≡ true → P) → P
 fresh_either P true b e h k = h refl
 fresh_either P false b e h k = k e
 
@@ -109,10 +106,7 @@ added_looked who rows old new h = record {
 
 own_act : (who : ℕ) (act : JobAct) → acts_of who (record { who = who; act = act } ∷ []) ≡ act ∷ []
 unfolding acts_of
-own_act who act = ap (λ b. if b then act ∷ [] else []) (same_number who)
-  where
-    same_number : (n : ℕ) → (n == n) ≡ true
-    same_number n = grind (arith, nat_tests)
+own_act who act = ap (λ b. if b then act ∷ [] else []) (eq-eqb who who refl)
 
 pub added_made : (who : ℕ) (act : JobAct) (rows : List ℕ) (old new : Floor) → Made who act rows old new → Added who (act ∷ []) rows old new
 added_made who act rows old new h = record {

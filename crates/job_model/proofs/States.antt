@@ -33,33 +33,27 @@ cancel_goes : (s : JobState) → is_cancellable s ≡ true → GoesTo s Cancelli
 cancel_goes New e = goes_once New Cancelling refl
 cancel_goes Active e = goes_once Active Cancelling refl
 cancel_goes Completing e = goes_once Completing Cancelling refl
-cancel_goes Cancelling e = cc
-cancel_goes Cancelled e = cc
-cancel_goes Completed e = cc
+cancel_goes other e = cc
 
 end_goes : (s : JobState) (j : Job) (end : End) → end_of s j ≡ Some end → GoesTo s (state_of_end end)
-end_goes New j end e = cc
-end_goes Active j end e = cc
 end_goes Completing j end e = let k : ends.Completed j.value ≡ end = cc
     in subst (λ x. GoesTo Completing (state_of_end x)) k (goes_once Completing Completed refl)
 end_goes Cancelling j end e = let k : ends.Cancelled j.cause ≡ end = cc
     in subst (λ x. GoesTo Cancelling (state_of_end x)) k (goes_once Cancelling Cancelled refl)
-end_goes Cancelled j end e = cc
-end_goes Completed j end e = cc
+end_goes other j end e = cc
 
 step_goes : (shape : Shape) (tree : Tree) (who q : ℕ) (act : JobAct) (x y : Option Job) → RowStep shape tree who q act x y → RowGoesTo x y
 step_goes shape tree who q _ _ _ (RowStep.is_attached p kind tag cancelled m i) = tt
-step_goes shape tree who q _ _ _ (RowStep.has_child r kind tag cancelled j none m) = GoesTo.stays
 step_goes shape tree who q _ _ _ (RowStep.is_started j n) = subst (λ s. GoesTo s Active) (sym n) (goes_once New Active refl)
 step_goes shape tree who q _ _ _ (RowStep.body_ends v j m) = body_goes j.state
 step_goes shape tree who q _ _ _ (RowStep.is_cancelled reason j m h) = cancel_goes j.state m
 step_goes shape tree who q _ _ _ (RowStep.ends end j m) = end_goes j.state j end m.2
-step_goes shape tree who q _ _ _ (RowStep.is_told d j m p) = GoesTo.stays
 step_goes shape tree who q _ _ _ (RowStep.stays act x a b c d f) = no_change x
   where
     no_change : (x : Option Job) → RowGoesTo x x
     no_change None = tt
     no_change (Some j) = GoesTo.stays
+step_goes shape tree who q _ _ _ other = GoesTo.stays
 
 row_goes_through : (x y z : Option Job) → RowGoesTo x y → RowGoesTo y z → RowGoesTo x z
 row_goes_through None y z g h = tt

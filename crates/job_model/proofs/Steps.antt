@@ -44,7 +44,7 @@ child_at : (shape : Shape) (tree : Tree) (who q r : ℕ) (kind : JobKind) (tag :
 child_at shape tree who q r kind tag cancelled None none m = absurd m
 child_at shape tree who q r kind tag cancelled (Some j) none m = has_child r kind tag cancelled j none m
 
-not_named : (r q : ℕ) → (r == q) ≡ false → (q == r) ≡ false
+pub not_named : (r q : ℕ) → (r == q) ≡ false → (q == r) ≡ false
 not_named r q e = grind (arith, nat_tests)
 
 attach_step : (shape : Shape) (tree : Tree) (who q p r : ℕ) (kind : JobKind) (tag : ℕ) (cancelled : Bool) → tree r ≡ None

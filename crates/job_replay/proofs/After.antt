@@ -1,5 +1,5 @@
 -- The rows after an act.
-use Rattle.std.specs.Prelude.{◌≡◌, ℕ, zero, suc, ◌+◌, ◌-◌, ◌==◌, ◌<◌, ◌≤◌, nat_lt, Bool, true, false, not, List, [], ◌∷◌, length, Option, Some, None, option_map, is_some, if◌then◌else◌, refl, MatchBool}
+use Rattle.std.specs.Prelude.{◌≡◌, ℕ, zero, suc, ◌+◌, ◌-◌, ◌==◌, ◌<◌, ◌≤◌, nat_lt, Bool, true, false, not, List, [], ◌∷◌, length, Option, Some, None, option_map, is_some, if◌then◌else◌, refl}
 use Rattle.std.specs.List.{IsDistinct}
 use Rattle.std.proofs.Common.{sym, ap, ◌∙◌, subst, arith}
 use Rattle.std.proofs.lemmas.Bool.Decides.{nat_tests}
@@ -18,15 +18,18 @@ use Rattle.job_model.specs.Trees.{IsShape, Job, Shape, Tree, is_among, living, p
 use Rattle.job_model.specs.Effects.{after, cancelled_for, cause_of, cause_of_reason, change, change_parent, ended_by, new_child, put_row, started, with_child, with_told, without_body}
 use Rattle.job_model.specs.Families.{children_of}
 use Rattle.job_model.specs.Laws.{HasFamilies}
-use Rattle.job_model.specs.Needs.{IsFinishedBy, IsRowFor, MayBeCancelled, MayEndBody, MayFinish, MayHaveChild, Needs}
+use Rattle.job_model.specs.Needs.{MayBeCancelled, MayEndBody, MayFinish, MayHaveChild, Needs}
 use Rattle.job_model.proofs.Ends.{told_only}
 use Rattle.job_model.proofs.Families.{after_families}
-use Rattle.job_model.proofs.RowMarks.{tell_mark}
+use Rattle.job_model.proofs.RowMarks.{tell_mark, listed_some, finished_some}
 use Rattle.job_model.proofs.Siblings.{kept_last, living_told, not_told}
 use Rattle.job_replay.specs.declared.job_row.JobRow.{JobRow}
 use Rattle.job_replay.specs.Rows.{AreGoneIn, AreRowsOf, StandsFor, bit_in, cause_in, item_in, one_more, parent_in, row_of_job}
 use Rattle.job_replay.specs.Changes.{Attaches, Changed, Changes, Lessens, Puts, Sets, bodiless_row, cancelled_row, cause_for, ended_row, started_row, with_less, with_more}
 use Rattle.job_replay.proofs.May.{parent_is}
+use Rattle.job_model.proofs.Ranks.{has_parent}
+use Rattle.job_model.proofs.Short.{row_within as child_within}
+use Rattle.job_model.proofs.Steps.{not_named}
 
 -- ---- which rows there are
 
@@ -87,9 +90,6 @@ same_gone : (shape : Shape) (tree : Tree) (who : ℕ) (act : JobAct) (gone gone'
 same_gone shape tree who act gone gone' h n none are is r =
     ap (λ l. bit_in l r) is ∙ are r ∙ told_is shape tree who act r h n (none r)
 
-turned : (u v : ℕ) → (u == v) ≡ false → (v == u) ≡ false
-turned u v k = grind (arith, nat_tests)
-
 more_gone : (shape : Shape) (tree : Tree) (who r : ℕ) (gone gone' : List Bool) → HasFamilies tree → Needs shape tree who (Gone r)
     → r < length gone → AreGoneIn tree gone → Sets r gone gone' → AreGoneIn (after tree who (Gone r)) gone'
 more_gone shape tree who r gone gone' h n lt are set q = by_test (r == q) refl (set.bits lt q)
@@ -100,7 +100,7 @@ more_gone shape tree who r gone gone' h n lt are set q = by_test (r == q) refl (
     by_test : (b : Bool) → (r == q) ≡ b → bit_in gone' q ≡ (if b then true else bit_in gone q)
         → bit_in gone' q ≡ was_told q (parent_row (after tree who (Gone r)) q)
     by_test true e p = p ∙ sym (tell_mark.sets shape tree who (Gone r) q h n (here r q e))
-    by_test false e p = p ∙ are q ∙ told_is shape tree who (Gone r) q h n (turned r q e)
+    by_test false e p = p ∙ are q ∙ told_is shape tree who (Gone r) q h n (not_named r q e)
 
 -- ---- who is there
 
@@ -120,21 +120,9 @@ finish_some : (end : End) (x : Option Job) → MayFinish end x → is_some x ≡
 finish_some end None m = absurd m
 finish_some end (Some j) m = refl
 
-finished_some : (who : ℕ) (x : Option Job) → IsFinishedBy who x → is_some x ≡ true
-finished_some who None m = absurd m
-finished_some who (Some j) m = refl
-
 parent_some : (cancelled : Bool) (x : Option Job) → MayHaveChild cancelled x → is_some x ≡ true
 parent_some cancelled None m = absurd m
 parent_some cancelled (Some j) m = refl
-
-listed_some : (c : ℕ) (x : Option Job) → is_among c (children_of x) ≡ true → is_some x ≡ true
-listed_some c None e = cc
-listed_some c (Some j) e = refl
-
-named_some : (x : Option Job) (p : ℕ) → parent_of x ≡ Some p → is_some x ≡ true
-named_some None p e = cc
-named_some (Some j) p e = refl
 
 -- ---- how many children live
 
@@ -142,7 +130,7 @@ few_children : (tree : Tree) (xs : List (Option JobRow)) (p : ℕ) → HasFamili
     → length (children_of (tree p)) ≤ length xs
 few_children tree xs p h are =
     length-le_from_distinct_below (children_of (tree p)) (length xs) (h.once p)
-    (λ c e. row_within tree xs c are (named_some (tree c) p (h.parents p c e)))
+    (λ c e. row_within tree xs c are (has_parent (tree c) p (h.parents p c e)))
 
 few_living : (j : Job) → length (living j) ≤ length j.children
 few_living j = omega
@@ -170,14 +158,12 @@ told_row r j e = ap (λ n. record (row_of_job j) { living = n }) (less (length (
 
 same_cause : (tree : Tree) (xs : List (Option JobRow)) (reason : Reason) → AreRowsOf tree xs
     → cause_of_reason tree reason ≡ cause_for xs reason
-same_cause tree xs reasons.Request are = refl
-same_cause tree xs reasons.Parent are = refl
 same_cause tree xs (reasons.Child c) are = sym (ap cause_in (are c) ∙ of_row (tree c))
   where
     of_row : (x : Option Job) → cause_in (option_map row_of_job x) ≡ cause_of x
     of_row None = refl
     of_row (Some j) = refl
-same_cause tree xs (reasons.Own f) are = refl
+same_cause tree xs other are = refl
 
 told_rows : (tree : Tree) (r : ℕ) (xs ys : List (Option JobRow)) (o : Option ℕ) → HasFamilies tree → AreRowsOf tree xs
     → parent_of (tree r) ≡ o → was_told r (row_of tree o) ≡ false → Lessens o xs ys → AreRowsOf (change_parent o (with_told r) tree) ys
@@ -191,14 +177,6 @@ told_rows tree r xs ys (Some p) h are e t less =
 told_count : (o : Option ℕ) (xs ys : List (Option JobRow)) → Lessens o xs ys → length ys ≡ length xs
 told_count None xs ys less = ap length less
 told_count (Some p) xs ys less = less.count
-
-child_within : (shape : Shape) (who : ℕ) (kind : JobKind) (tag r : ℕ) → IsShape shape → tag < shape.coroutines
-    → IsRowFor shape who kind tag r → r < shape.rows
-child_within shape who kind tag r s lt row = by_kind kind.scoped row
-  where
-    by_kind : (b : Bool) → MatchBool b ((tag ≡ who) × (shape.coroutines ≤ r) × (r < shape.rows)) (r ≡ tag) → r < shape.rows
-    by_kind true m = m.2
-    by_kind false m = let f = s.fit in omega (arith, m, lt, f)
 
 attached_rows : (shape : Shape) (tree : Tree) (who p r : ℕ) (kind : JobKind) (tag : ℕ) (cancelled : Bool) (xs ys : List (Option JobRow))
     → IsShape shape → shape.rows ≤ 65535 → length xs ≡ shape.rows → HasFamilies tree → AreRowsOf tree xs

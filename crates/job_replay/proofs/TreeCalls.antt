@@ -1,20 +1,17 @@
 -- The tree at the start, and what a look shows.
 use Rattle.std.specs.Prelude.{◌≡◌, ℕ, Bool, true, false, List, length, Option, Some, None, option_map, refl, if◌then◌else◌}
 use Rattle.std.proofs.Common.{sym, ap, ◌∙◌}
-use Rattle.job_model.specs.Trees.{Job, Shape, Tree, row_of, parent_of, start, was_told}
+use Rattle.job_model.specs.Trees.{Job, Shape, Tree, parent_of, start}
 use Rattle.job_model.specs.declared.acts.JobAct.{JobAct}
 use Rattle.job_model.specs.Effects.{after}
 use Rattle.job_model.specs.Needs.{Needs}
 use Rattle.job_model.specs.Steps.{may_make}
-use Rattle.job_model.proofs.Families.{at_start, start_families}
+use Rattle.job_model.proofs.Families.{start_families}
 use Rattle.job_model.proofs.Needed.{step_made}
 use Rattle.job_replay.specs.declared.job_row.JobRow.{JobRow}
 use Rattle.job_replay.specs.Rows.{AreRowsOf, StandsFor, bit_in, item_in, row_of_job}
 use Rattle.job_replay.specs.Replays.{look_of, look_of_row}
-
-start_told : (r : ℕ) (o : Option ℕ) → was_told r (row_of start o) ≡ false
-start_told r None = refl
-start_told r (Some p) = at_start (λ x. was_told r x ≡ false) refl refl p
+use Rattle.job_model.proofs.Ends.{start_told}
 
 pub fresh_tree : (n : ℕ) (xs : List (Option JobRow)) (gone : List Bool) → length xs ≡ n → AreRowsOf start xs → length gone ≡ n
     → ((r : ℕ) → bit_in gone r ≡ false) → StandsFor n start xs gone

@@ -1,6 +1,6 @@
 -- A walk over the entries of a history.
 use Rattle.std.specs.Prelude.{◌≡◌, ℕ, ◌+◌, ◌≤◌, true, false, List, [], ◌∷◌, ◌++◌, length, refl}
-use Rattle.std.proofs.Common.{get_or, sym, ap, ◌∙◌, subst, arith, append_assoc, append-nil, drop, length-append, true≢false}
+use Rattle.std.proofs.Common.{get_or, sym, ap, ◌∙◌, subst, arith, append_assoc, drop, length-append, true≢false}
 use Rattle.job_model.specs.declared.acts.JobEntry.{JobEntry}
 use Rattle.job_model.specs.Trees.{Shape, Tree, start}
 use Rattle.job_model.specs.Histories.{Legal, LegalFrom, replay, replay_from}
@@ -50,11 +50,6 @@ goes_on shape entries n (e ∷ more) next d old new w le is size step =
       legal = Legal_push shape w.before e w.legal (needs_of shape (replay w.before) e.who e.act may);
       tree = subst (λ t. IsTree t new) (sym (replay_push w.before e)) made.left;
     }
-
-pub ended : (shape : Shape) (entries : List JobEntry) (n : ℕ) (rest : List JobEntry) (x : JobReplay) → Walked shape entries n rest x
-    → length rest ≡ 0 → Legal shape entries
-ended shape entries n [] x w e = subst (Legal shape) (sym (w.split ∙ append-nil w.before)) w.legal
-ended shape entries n (e ∷ rest) x w f = absurd (omega (arith, f))
 
 pub stops : (shape : Shape) (entries : List JobEntry) (n : ℕ) (rest : List JobEntry) (d : JobEntry) (old new : JobReplay)
     → Walked shape entries n rest old → 1 ≤ length rest

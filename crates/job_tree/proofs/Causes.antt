@@ -54,10 +54,9 @@ child_failed r (Some j) h = h.1
 -- the reason gives a failure
 gives_failure : (shape : Shape) (tree : Tree) (who r : ℕ) (reason : Reason) → Holds shape tree who r reason → is_for_failure reason ≡ true
     → is_failure (cause_of_reason tree reason) ≡ true
-gives_failure shape tree who r reasons.Request h e = cc
-gives_failure shape tree who r reasons.Parent h e = cc
 gives_failure shape tree who r (reasons.Child c) h e = child_failed r (tree c) h.0
 gives_failure shape tree who r (reasons.Own f) h e = refl
+gives_failure shape tree who r other h e = cc
 
 is_given : (cause : Cause) (x : Option Job) → MayBeCancelled x → is_failure cause ≡ true → IsFailure (option_map (cancelled_for cause) x)
 is_given cause None m e = absurd m

@@ -8,8 +8,7 @@ use Rattle.job_model.specs.declared.acts.Reason.TheVariants as reasons
 use Rattle.job_model.specs.declared.acts.JobEntry.{JobEntry}
 use Rattle.job_model.specs.declared.floor.JobView.{JobView}
 use Rattle.job_model.specs.declared.floor.Link.{Link}
-use Rattle.job_model.specs.Trees.{Shape, IsShape, Job, Tree, is_among, is_supervisor, parent_of}
-use Rattle.job_model.specs.Families.{children_of}
+use Rattle.job_model.specs.Trees.{Shape, IsShape, Job, Tree, is_supervisor, parent_of}
 use Rattle.job_model.specs.Cancels.{own_cancel}
 use Rattle.job_model.specs.Needs.{IsFailedChild, Holds}
 use Rattle.job_model.specs.Histories.{replay, Legal}
@@ -29,7 +28,7 @@ use Rattle.job_tree.proofs.Looks.{looked_self, link_is}
 use Rattle.job_tree.proofs.Notes.{noted_looked, noted_then}
 use Rattle.job_tree.proofs.PassesTold.{told_noted, pass_noted}
 use Rattle.job_model.proofs.FailingUp.{scope_lasts, supervisor_lasts, goes_kept, cancels_below_kept}
-use Rattle.job_model.proofs.Ranks.{ranks, are_ranks, ranks_stay}
+use Rattle.job_model.proofs.Ranks.{ranks, are_ranks, ranks_stay, has_children}
 use Rattle.job_tree.proofs.Causes.{failure_later}
 use Rattle.job_tree.proofs.Walks.{legal_as}
 
@@ -62,10 +61,6 @@ linked_parent who row link x y z l k p =
     let m = k.1 in
     prefix_keeps _ (parent_lasts link.parent) z.shape m.moment z.seen row l (prefix_then m.moment y.seen z.seen m.before p)
     (link_is (replay m.moment) row (replay m.moment row) link m.holds).0
-
-has_children : (x : Option Job) (c : ℕ) → is_among c (children_of x) ≡ true → is_some x ≡ true
-has_children None c e = cc
-has_children (Some j) c e = refl
 
 pub parent_attached : (shape : Shape) (history : List JobEntry) (row p : ℕ) → Legal shape history → parent_of (replay history row) ≡ Some p
     → is_some (replay history p) ≡ true

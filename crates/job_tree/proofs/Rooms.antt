@@ -2,7 +2,7 @@
 use Rattle.std.specs.Prelude.{◌≡◌, ℕ, zero, suc, ◌+◌, ◌==◌, ◌≤◌, ◌<◌, Bool, true, false, not, ◌||◌, List, [], ◌∷◌, ◌++◌, Option, Some, None, if◌then◌else◌, refl}
 use mathlib.Core.List.{IsPrefix}
 use Rattle.std.proofs.Common.{sym, ap, ◌∙◌, subst, arith}
-use Rattle.std.proofs.lemmas.Bool.{eqb-true}
+use Rattle.std.proofs.lemmas.Bool.{eqb-true, or_parts, not-true, or_right}
 use Rattle.std.proofs.lemmas.Bool.Decides.{nat_tests}
 use Rattle.std.proofs.lemmas.List.Folds.{list_any-append}
 use Rattle.job_model.specs.declared.acts.Reason.{Reason}
@@ -70,14 +70,9 @@ count_some n t q l e =
 
 cancelled_by : (shape : Shape) (tree : Tree) (who q : ℕ) (act : JobAct) (x y : Option Job) → RowStep shape tree who q act x y
     → cancels q act ≡ true → IsCancellingOrEnded y
-cancelled_by shape tree who q _ _ _ (RowStep.is_attached p kind tag cancelled m i) e = cc
-cancelled_by shape tree who q _ _ _ (RowStep.has_child r kind tag cancelled j none m) e = cc
-cancelled_by shape tree who q _ _ _ (RowStep.is_started j n) e = cc
-cancelled_by shape tree who q _ _ _ (RowStep.body_ends v j m) e = cc
 cancelled_by shape tree who q _ _ _ (RowStep.is_cancelled reason j m o) e = refl
-cancelled_by shape tree who q _ _ _ (RowStep.ends end j m) e = cc
-cancelled_by shape tree who q _ _ _ (RowStep.is_told d j m o) e = cc
 cancelled_by shape tree who q _ _ _ (RowStep.stays act x a b d f g) e = absurd (let u : false ≡ true = sym f ∙ e in cc)
+cancelled_by shape tree who q _ _ _ other e = cc
 
 marked_from : (shape : Shape) (tree : Tree) (es : List JobEntry) (r : ℕ) → LegalFrom shape tree es → has cancels r es ≡ true
     → IsCancellingOrEnded (replay_from tree es r)
@@ -110,20 +105,12 @@ marked shape es r l h = marked_from shape _ es r l h
 has_more : (r : ℕ) (xs ys : List JobEntry) → has cancels r (xs ++ ys) ≡ (has cancels r xs || has cancels r ys)
 has_more r xs ys = list_any-append (λ (e : JobEntry). cancels r e.act) xs ys
 
-or_left_false : (a b : Bool) → (a || b) ≡ false → a ≡ false
-or_left_false true b k = k
-or_left_false false b k = refl
-
 -- who has no Cancel had none before
 had_none : (r : ℕ) (xs ys : List JobEntry) → IsPrefix xs ys → has cancels r ys ≡ false → has cancels r xs ≡ false
-had_none r xs ys p h = or_left_false (has cancels r xs) (has cancels r p.0) (sym (has_more r xs p.0) ∙ ap (has cancels r) p.1 ∙ h)
-
-not_true : (b : Bool) → not b ≡ true → b ≡ false
-not_true true e = cc
-not_true false e = refl
+had_none r xs ys p h = (or_parts (has cancels r xs) (has cancels r p.0) (sym (has_more r xs p.0) ∙ ap (has cancels r) p.1 ∙ h)).0
 
 still_none : (r : ℕ) (xs ys : List JobEntry) → IsPrefix xs ys → not (has cancels r ys) ≡ true → not (has cancels r xs) ≡ true
-still_none r xs ys p h = ap not (had_none r xs ys p (not_true (has cancels r ys) h))
+still_none r xs ys p h = ap not (had_none r xs ys p (not-true (has cancels r ys) h))
 
 uncancelled_le : (n : ℕ) (xs ys : List JobEntry) → IsPrefix xs ys
     → count_below n (λ r. not (has cancels r ys)) ≤ count_below n (λ r. not (has cancels r xs))
@@ -160,11 +147,7 @@ seen_room row a b moment spare s l w p m le room =
 
 pub now_marked : (r : ℕ) (xs : List JobEntry) (who : ℕ) (reason : Reason)
     → has cancels r (xs ++ record { who = who; act = Cancel r reason } ∷ []) ≡ true
-now_marked r xs who reason = has_more r xs _ ∙ ap (λ b. has cancels r xs || (b || false)) (same r) ∙ or_true (has cancels r xs)
-  where
-    or_true : (b : Bool) → (b || true) ≡ true
-    or_true true = refl
-    or_true false = refl
+now_marked r xs who reason = has_more r xs _ ∙ ap (λ b. has cancels r xs || (b || false)) (same r) ∙ or_right (has cancels r xs) true refl
 
 pub looked_fewer : (who : ℕ) (rows : List ℕ) (a b : Floor) → Looked who rows a b → 0 + uncancelled b ≤ uncancelled a
 looked_fewer who rows a b h =

@@ -29,7 +29,7 @@ use Rattle.job_tree.specs.declared.caller.Reserve.TheVariants.{Before, AsItGoes}
 use Rattle.job_tree.specs.declared.steps.WalkStep.TheVariants.{To, Over, Up}
 use Rattle.job_model.proofs.Covered.{prefix_keeps_all}
 use Rattle.job_tree.proofs.Causes.{failure_later}
-use Rattle.job_model.proofs.Ranks.{ranks, top_rank, are_ranks, ranks_stay}
+use Rattle.job_model.proofs.Ranks.{ranks, top_rank, are_ranks, ranks_stay, has_parent}
 use Rattle.job_tree.proofs.Notes.{noted_then, noted_looked}
 use Rattle.job_tree.proofs.PassesTold.{pass_told, pass_tells, pass_count}
 use Rattle.job_model.proofs.FailingUp.{cancels_below_kept}
@@ -85,10 +85,6 @@ walked_within shape history top at false s l h = less ((ranks shape history).ran
   where
     less : (a b c : ℕ) → a + b ≤ c → a ≤ c
     less a b c p = omega arith
-
-has_parent : (x : Option Job) (p : ℕ) → parent_of x ≡ Some p → is_some x ≡ true
-has_parent None p e = cc
-has_parent (Some j) p e = refl
 
 -- ---- the root
 

@@ -1,10 +1,10 @@
 -- The way of a walk: how far it has come, as the history goes on.
-use Rattle.std.specs.Prelude.{◌≡◌, ℕ, ◌*◌, ◌==◌, ◌≤◌, Bool, true, false, List, [], Option, Some, None, is_some, refl}
+use Rattle.std.specs.Prelude.{◌≡◌, ℕ, ◌*◌, ◌==◌, ◌≤◌, Bool, true, false, List, [], Option, Some, None, refl}
 use mathlib.Core.List.{IsPrefix}
 use Rattle.std.proofs.Common.{sym, ap, ◌∙◌, subst, arith}
 use Rattle.std.proofs.lemmas.Bool.{eqb-true, eq-eqb}
 use Rattle.job_model.specs.declared.acts.JobState.{JobState}
-use Rattle.job_model.specs.declared.acts.JobState.TheVariants.{New, Active, Completing, Cancelling, Cancelled, Completed}
+use Rattle.job_model.specs.declared.acts.JobState.TheVariants.{Cancelling, Cancelled, Completed}
 use Rattle.job_model.specs.declared.acts.Reason.TheVariants as reasons
 use Rattle.job_model.specs.declared.acts.JobEntry.{JobEntry}
 use Rattle.job_model.specs.Trees.{Shape, IsShape, Job, Tree, is_cancellable, is_cancelled, is_ended, is_among, parent_of, parent_row, row_of}
@@ -21,7 +21,7 @@ use Rattle.job_tree.specs.Passes.{IsNewestOf, HasNoneBelow}
 use Rattle.job_model.specs.Cancels.{IsAllCancelled}
 use Rattle.job_model.proofs.Covered.{prefix_keeps_all, late_all}
 use Rattle.job_model.proofs.Falling.{newest_lightest, older_is_next, oldest_heaviest, falling_light}
-use Rattle.job_model.proofs.Ranks.{ranks, are_ranks, ranks_stay}
+use Rattle.job_model.proofs.Ranks.{ranks, are_ranks, ranks_stay, has_parent}
 
 -- each child of p that is newer than c is Cancelling or ended with all below it
 abbrev pub AreNewerDone : Tree → (ℕ → ℕ) → ℕ → ℕ → Type 0
@@ -33,41 +33,27 @@ pub data IsWay (tree : Tree) (w : ℕ → ℕ) (top : ℕ) : ℕ → Type 0 wher
   further : (p c : ℕ) → IsWay tree w top p → parent_of (tree c) ≡ Some p → IsCancelled (tree p) → AreNewerDone tree w p c
       → IsWay tree w top c
 
-has_parent : (x : Option Job) (p : ℕ) → parent_of x ≡ Some p → is_some x ≡ true
-has_parent None p e = cc
-has_parent (Some j) p e = refl
-
 cancelled_state : (s : JobState) → is_cancelled s ≡ true → is_cancellable s ≡ false
-cancelled_state New e = cc
-cancelled_state Active e = cc
-cancelled_state Completing e = cc
 cancelled_state Cancelling e = refl
 cancelled_state Cancelled e = refl
-cancelled_state Completed e = cc
+cancelled_state other e = cc
 
 pub cancelled_row : (x : Option Job) → IsCancelled x → IsCancellingOrEnded x
 cancelled_row None h = absurd h
 cancelled_row (Some j) h = cancelled_state j.state h
 
 ended_state : (s : JobState) → is_ended s ≡ true → is_cancellable s ≡ false
-ended_state New e = cc
-ended_state Active e = cc
-ended_state Completing e = cc
-ended_state Cancelling e = cc
 ended_state Cancelled e = refl
 ended_state Completed e = refl
+ended_state other e = cc
 
 ended_row : (x : Option Job) → IsEnded x → IsCancellingOrEnded x
 ended_row None h = absurd h
 ended_row (Some j) h = ended_state j.state h
 
 live_state : (s : JobState) → is_cancellable s ≡ false → is_ended s ≡ false → is_cancelled s ≡ true
-live_state New c e = cc
-live_state Active c e = cc
-live_state Completing c e = cc
 live_state Cancelling c e = refl
-live_state Cancelled c e = cc
-live_state Completed c e = cc
+live_state other c e = cc
 
 -- a Job that is Cancelling stays cancelled
 pub still_cancelled : (shape : Shape) (xs ys : List JobEntry) (p c : ℕ) → Legal shape ys → IsPrefix xs ys → parent_of (replay xs c) ≡ Some p

@@ -129,8 +129,6 @@ cause_back rows (because.Failure f) few k e =
 end_word : (rows : ℕ) (s : JobState) (j : Job) (end : End) → rows ≤ 16000 → IsSmallCause rows j.cause → is_cause j.cause ≡ is_cancelled s
     → (w : JobWord) → w.rest ≡ rest_of s j.value j.cause → end_from w s ≡ Some end → (end_of s j ≡ Some end)
     × (rest_of (state_of_end end) j.value j.cause ≡ rest_of s j.value j.cause)
-end_word rows New j end few sm c w r e = cc
-end_word rows Active j end few sm c w r e = cc
 end_word rows Completing j end few sm c w r e = let k : ends.Completed w.rest ≡ end = cc
     in (ap (λ n. Some (ends.Completed n)) (sym r) ∙ e, sym (ap (λ x. rest_of (state_of_end x) j.value j.cause) k))
 end_word rows Cancelling j end few sm c w r e =
@@ -139,8 +137,7 @@ end_word rows Cancelling j end few sm c w r e =
           ∙ e,
       sym (ap (λ x. rest_of (state_of_end x) j.value j.cause) k),
     )
-end_word rows Cancelled j end few sm c w r e = cc
-end_word rows Completed j end few sm c w r e = cc
+end_word rows other j end few sm c w r e = cc
 
 none_left : (l : List ℕ) → length l ≡ 0 → is_none_left l ≡ true
 none_left [] e = refl

@@ -2,7 +2,7 @@
 use Rattle.std.specs.Prelude.{◌≡◌, ℕ, true, List, [], ◌++◌, Option, Some, None, is_some, refl}
 use Rattle.std.proofs.Common.{sym, ap, ◌∙◌, subst}
 use Rattle.job_model.specs.declared.acts.JobState.{JobState}
-use Rattle.job_model.specs.declared.acts.JobState.TheVariants.{New, Active, Completing, Cancelling, Cancelled, Completed}
+use Rattle.job_model.specs.declared.acts.JobState.TheVariants.{Cancelling, Cancelled}
 use Rattle.job_model.specs.declared.acts.Cause.{Cause}
 use Rattle.job_model.specs.declared.acts.Cause.TheVariants as because
 use Rattle.job_model.specs.declared.acts.Reason.{Reason}
@@ -64,13 +64,11 @@ failing_cause f (Some j) h = h.0
 pub cause_more : (size : ForestSize) (xs ys : List Deed) (who row : ℕ) (reason : Reason) → IsSize size → IsDone (shape_of size) xs
     → IsDone (shape_of size) (xs ++ ys) → Holds (shape_of size) (store_of xs).tree who row reason
     → cause_of_reason (store_of (xs ++ ys)).tree reason ≡ cause_of_reason (store_of xs).tree reason
-cause_more size xs ys who row reasons.Request s hx h o = refl
-cause_more size xs ys who row reasons.Parent s hx h o = refl
 cause_more size xs ys who row (reasons.Child c) s hx h o =
     let f = failing_of row ((store_of xs).tree c) o.0 ((kept size xs s hx).families.rows c) in
     failing_cause f.0 ((store_of (xs ++ ys)).tree c) (lasts_more (Failing f.0) (failing_lasts f.0) size xs ys c h f.1)
     ∙ sym (failing_cause f.0 ((store_of xs).tree c) f.1)
-cause_more size xs ys who row (reasons.Own f) s hx h o = refl
+cause_more size xs ys who row other s hx h o = refl
 
 pub holds_more : (size : ForestSize) (xs ys : List Deed) (who row : ℕ) (reason : Reason) → IsDone (shape_of size) (xs ++ ys)
     → Holds (shape_of size) (store_of xs).tree who row reason → Holds (shape_of size) (store_of (xs ++ ys)).tree who row reason
@@ -94,12 +92,9 @@ cause_goes size who row reason rows v w c s key h g k =
     }
 
 rest_cause : (s : JobState) (v : ℕ) (c : Cause) → is_cancelled s ≡ true → rest_of s v c ≡ cause_code c
-rest_cause New v c e = cc
-rest_cause Active v c e = cc
-rest_cause Completing v c e = cc
 rest_cause Cancelling v c e = refl
 rest_cause Cancelled v c e = refl
-rest_cause Completed v c e = cc
+rest_cause other v c e = cc
 
 -- the cause that the word of a cancelled Job has
 pub cause_word : (size : ForestSize) (j : Job) (w : JobWord) → IsSize size → IsSmall (shape_of size) j

@@ -2,13 +2,14 @@
 use Rattle.std.specs.Prelude.{◌≡◌, ◌≢◌, ℕ, suc, ◌+◌, ◌==◌, ◌<◌, ◌≤◌, Bool, true, false, ◌||◌, List, [], ◌∷◌, ◌++◌, length, Option, Some, None, if◌then◌else◌, refl}
 use Rattle.std.specs.List.{IsDistinct, AllByRecursion}
 use Rattle.std.proofs.Common.{sym, ap, ◌∙◌, subst, arith, append_assoc, eq-eqb, ne_eqb}
-use Rattle.std.proofs.lemmas.Bool.Decides.{nat_tests}
 use Rattle.std.proofs.lemmas.List.{length-append}
+use Rattle.std.proofs.lemmas.Bool.{or_parts, or_from, or_right}
 use Rattle.job_model.specs.Trees.{is_among}
 use Rattle.job_model.specs.Families.{newest, newest_after, older, older_after}
 use Rattle.job_model.proofs.Rows.{same}
 use Rattle.word_rules.specs.Rows.{row_code}
 use Rattle.job_model.proofs.Siblings.{newest_from, newest_from-none}
+use Rattle.job_model.proofs.Steps.{not_named}
 
 -- the place of a child, from the oldest on
 pub rank : ℕ → List ℕ → ℕ
@@ -19,22 +20,11 @@ rank c (x ∷ xs) = if c == x then 0 else suc (rank c xs)
 abbrev pub ahead : ℕ → List ℕ → ℕ
 ahead next l = if next == 0 then 0 else suc (rank next l)
 
-left_false : (a b : Bool) → (a || b) ≡ false → a ≡ false
-left_false true b e = cc
-left_false false b e = refl
-
-right_false : (a b : Bool) → (a || b) ≡ false → b ≡ false
-right_false true b e = cc
-right_false false b e = e
-
-or_false : (a b : Bool) → a ≡ false → b ≡ false → (a || b) ≡ false
-or_false a b e f = ap (λ x. x || b) e ∙ f
-
 older_at : (o : Option ℕ) (c : ℕ) (front back : List ℕ) → is_among c front ≡ false
     → older_after o c (front ++ c ∷ back) ≡ newest_from o front
 older_at o c [] back e = ap (λ b. if b then o else older_after (Some c) c back) (same c)
-older_at o c (x ∷ xs) back e = ap (λ b. if b then o else older_after (Some x) c (xs ++ c ∷ back)) (left_false (c == x) (is_among c xs) e)
-    ∙ older_at (Some x) c xs back (right_false (c == x) (is_among c xs) e)
+older_at o c (x ∷ xs) back e = ap (λ b. if b then o else older_after (Some x) c (xs ++ c ∷ back)) (or_parts (c == x) (is_among c xs) e).0
+    ∙ older_at (Some x) c xs back (or_parts (c == x) (is_among c xs) e).1
 
 pub older_is : (c : ℕ) (front back : List ℕ) → is_among c front ≡ false → older c (front ++ c ∷ back) ≡ newest front
 older_is c front back e = older_at None c front back e ∙ newest_from-none front
@@ -42,11 +32,8 @@ older_is c front back e = older_at None c front back e ∙ newest_from-none fron
 rank_at : (c : ℕ) (front back : List ℕ) → is_among c front ≡ false → rank c (front ++ c ∷ back) ≡ length front
 unfolding rank
 rank_at c [] back e = ap (λ b. if b then 0 else suc (rank c back)) (same c)
-rank_at c (x ∷ xs) back e = ap (λ b. if b then 0 else suc (rank c (xs ++ c ∷ back))) (left_false (c == x) (is_among c xs) e)
-    ∙ (let k = rank_at c xs back (right_false (c == x) (is_among c xs) e) in grind arith)
-
-turned : (a b : ℕ) → (a == b) ≡ false → (b == a) ≡ false
-turned a b e = grind (arith, nat_tests)
+rank_at c (x ∷ xs) back e = ap (λ b. if b then 0 else suc (rank c (xs ++ c ∷ back))) (or_parts (c == x) (is_among c xs) e).0
+    ∙ (let k = rank_at c xs back (or_parts (c == x) (is_among c xs) e).1 in grind arith)
 
 all_at : (x c : ℕ) (front back : List ℕ) → AllByRecursion (λ y. (x == y) ≡ false) (front ++ c ∷ back) → (x == c) ≡ false
 all_at x c [] back h = h.0
@@ -55,7 +42,7 @@ all_at x c (y ∷ ys) back h = all_at x c ys back h.1
 pub distinct_front : (c : ℕ) (front back : List ℕ) → IsDistinct (λ (u : ℕ) (v : ℕ). u == v) (front ++ c ∷ back) → is_among c front ≡ false
 unfolding IsDistinct
 distinct_front c [] back h = refl
-distinct_front c (x ∷ xs) back h = or_false (c == x) (is_among c xs) (turned x c (all_at x c xs back h.0)) (distinct_front c xs back h.1)
+distinct_front c (x ∷ xs) back h = or_from (c == x) (is_among c xs) (not_named x c (all_at x c xs back h.0)) (distinct_front c xs back h.1)
 
 -- the newest of a list stands last
 last_from : (c : ℕ) (cs : List ℕ) → (front : List ℕ) × (c ∷ cs ≡ front ++ newest_after c cs ∷ [])
@@ -78,11 +65,7 @@ IsAhead children row next = (next ≡ 0 → is_among row children ≡ false)
 
 pub among_at : (c : ℕ) (front back : List ℕ) → is_among c (front ++ c ∷ back) ≡ true
 among_at c [] back = ap (λ b. b || is_among c back) (same c)
-among_at c (x ∷ xs) back = ap (λ b. (c == x) || b) (among_at c xs back) ∙ or_true (c == x)
-  where
-    or_true : (b : Bool) → (b || true) ≡ true
-    or_true true = refl
-    or_true false = refl
+among_at c (x ∷ xs) back = ap (λ b. (c == x) || b) (among_at c xs back) ∙ or_right (c == x) true refl
 
 -- where the walk begins
 pub begin_walk : (children : List ℕ) (row first : ℕ) → ((d : ℕ) → is_among d children ≡ true → d ≢ 0) → (o : Option ℕ) → newest children ≡ o
@@ -99,7 +82,7 @@ pub step_walk : (children : List ℕ) (row next after : ℕ) → ((d : ℕ) → 
     → (o : Option ℕ) → newest front ≡ o → after ≡ row_code o → IsAhead children row after
 step_walk children row next after some front back e n ne None w f = (
   λ z. ap (is_among row) (e ∙ ap (λ l. l ++ next ∷ back) (newest_none front w))
-      ∙ or_false (row == next) (is_among row back) (ne_eqb row next ne) n,
+      ∙ or_from (row == next) (is_among row back) (ne_eqb row next ne) n,
   λ nz. absurd (nz f),
 )
 step_walk children row next after some front back e n ne (Some d) w f =
@@ -112,7 +95,7 @@ step_walk children row next after some front back e n ne (Some d) w f =
         next ∷ back,
         is
             ∙ ap (λ x. k.0 ++ x ∷ (next ∷ back)) (sym f),
-        or_false (row == next) (is_among row back) (ne_eqb row next ne) n,
+        or_from (row == next) (is_among row back) (ne_eqb row next ne) n,
       ),
     )
 

@@ -2,6 +2,7 @@
 use Rattle.std.specs.Prelude.{◌≡◌, ℕ, ◌-◌, ◌==◌, ◌<◌, ◌≤◌, Bool, true, false, ◌&&◌, [], if◌then◌else◌, Option, Some, None, IsSome, refl}
 use Rattle.std.proofs.Common.{sym, ap, ◌∙◌, subst, arith}
 use Rattle.std.proofs.lemmas.Bool.Decides.{nat_tests}
+use Rattle.std.proofs.lemmas.Bool.{eqb-true}
 use Rattle.worded.specs.Views.{has_tag}
 use Rattle.job_model.specs.declared.acts.JobState.{JobState}
 use Rattle.job_model.specs.declared.acts.JobState.TheVariants.{Active, Cancelling}
@@ -152,9 +153,6 @@ cancel_answer size who row reason code w d u v x b s key a g e t =
 
 -- ---- the end of a Job
 
-is_none : (n : ℕ) → (n == 0) ≡ true → n ≡ 0
-is_none n e = grind (arith, nat_tests)
-
 is_some_left : (n : ℕ) → (n == 0) ≡ false → 0 < n
 is_some_left n e = grind (arith, nat_tests)
 
@@ -172,7 +170,7 @@ finish_may size who row v w d s own a k e = subst (MayDecide size v who row w) (
 
     by_tests : (b n : Bool) → w.body_ended ≡ b → (w.living == 0) ≡ n
         → MayDecide size v who row w (if b && n then finish_with row w (end_from w w.state) else Keep finished.NotYet)
-    by_tests true true b n = by_end (end_from w w.state) refl b (is_none w.living n)
+    by_tests true true b n = by_end (end_from w w.state) refl b (eqb-true w.living 0 n)
     by_tests true false b n = tt
     by_tests false m b n = tt
 

@@ -2,7 +2,6 @@
 use Rattle.std.specs.Prelude.{◌≡◌, ℕ, ◌==◌, ◌<◌, ◌≤◌, Bool, true, false, ◌||◌, List, [], ◌∷◌, ◌++◌, Option, Some, None, if◌then◌else◌, refl}
 use Rattle.std.proofs.Common.{sym, ap, ◌∙◌, arith}
 use Rattle.std.proofs.lemmas.Bool.{eqb-true, eq-eqb}
-use Rattle.std.proofs.lemmas.Bool.Decides.{nat_tests}
 use Rattle.job_model.specs.declared.acts.JobAct.{JobAct}
 use Rattle.job_model.specs.declared.acts.JobAct.TheVariants.{Attach, Start}
 use Rattle.job_model.specs.Trees.{Shape, is_among}
@@ -13,6 +12,7 @@ use Rattle.worded.specs.Histories.{entries_of}
 use Rattle.word_rules.specs.declared.deed.Deed.{Deed}
 use Rattle.word_rules.specs.declared.deed.Deed.TheVariants.{Act, Claim, StoreLink, StoreJob}
 use Rattle.word_rules.specs.Deeds.{doer, history_of, rows_claimed, Store, put, nothing_done, after_deed, store_from, store_of, IsStored, DeedNeeds, DoneFrom, IsDone}
+use Rattle.job_model.proofs.Steps.{not_named}
 
 pub store_from-append : (s : Store) (xs ys : List Deed) → store_from s (xs ++ ys) ≡ store_from (store_from s xs) ys
 unfolding store_from
@@ -206,9 +206,6 @@ claims_fresh shape s (StoreJob t q w ∷ ds) who r h k = by_test (t == who) k
 abbrev Counts : ℕ → ℕ → Option ℕ → Option ℕ → List Deed → Type 0
 Counts who r x y ds = is_claimed_by who y ≡ (is_claimed_by who x || is_among r (rows_claimed ds))
 
-other_number : (t who : ℕ) → (t == who) ≡ false → (who == t) ≡ false
-other_number t who e = grind (arith, nat_tests)
-
 claim_counts : (s : Store) (t q who r : ℕ) (y : Option ℕ) (ds : List Deed) → s.claimer q ≡ None
     → Counts who r (put q (Some t) s.claimer r) y (entries_of doer who ds)
     → Counts who r (s.claimer r) y (entries_of doer who (Claim t q ∷ ds))
@@ -227,12 +224,12 @@ claim_counts s t q who r y ds none h = by_who (t == who) refl
     own_here true e k =
         ap (λ b. b || rest) (eq-eqb who t (sym (eqb-true t who k)))
         ∙ sym (ap (λ b. b || ((r == q) || rest)) (unclaimed e) ∙ ap (λ b. b || rest) (eq-eqb r q (sym (eqb-true q r e))))
-    own_here false e k = ap (λ b. is_claimed_by who (s.claimer r) || (b || rest)) (sym (other_number q r e))
+    own_here false e k = ap (λ b. is_claimed_by who (s.claimer r) || (b || rest)) (sym (not_named q r e))
 
     others_here : (b : Bool) → (q == r) ≡ b → (t == who) ≡ false → is_claimed_by who (if b then Some t else s.claimer r)
         || is_among r (rows_claimed (entries_of doer who ds)) ≡
         (is_claimed_by who (s.claimer r) || is_among r (rows_claimed (entries_of doer who ds)))
-    others_here true e k = ap (λ b. b || rest) (other_number t who k) ∙ sym (ap (λ b. b || rest) (unclaimed e))
+    others_here true e k = ap (λ b. b || rest) (not_named t who k) ∙ sym (ap (λ b. b || rest) (unclaimed e))
     others_here false e k = refl
 
     by_who : (b : Bool) → (t == who) ≡ b → is_claimed_by who y ≡

@@ -3,7 +3,7 @@ use Rattle.std.specs.Prelude.{◌≡◌, ◌≢◌, ℕ, ◌==◌, ◌<◌, ◌+
 use Rattle.std.proofs.Common.{⊎_elim, arith, sym, ap, ◌∙◌, subst, append_assoc, append-nil, ne_eqb}
 use Rattle.std.specs.List.{IsDistinct}
 use Rattle.job_model.specs.declared.acts.JobState.{JobState}
-use Rattle.job_model.specs.declared.acts.JobState.TheVariants.{New, Active, Completing, Cancelling, Cancelled, Completed}
+use Rattle.job_model.specs.declared.acts.JobState.TheVariants.{Completing, Completed}
 use Rattle.job_model.specs.declared.acts.JobKind.{JobKind}
 use Rattle.job_model.specs.declared.acts.Cause.{Cause}
 use Rattle.job_model.specs.declared.acts.Cause.TheVariants as because
@@ -33,6 +33,7 @@ use Rattle.job_words.proofs.PartsOfAnAttach.{job_seen, goes_done, link_found}
 use Rattle.job_words.proofs.TriesOfAnAct.{root_parent, last_step, link_parent}
 use Rattle.job_words.proofs.CausesInWords.{cause_word}
 use Rattle.job_words.proofs.ChildrenInOrder.{IsAhead, ahead, begin_walk, step_walk, step_nearer, older_is, distinct_front, among_at, newest_last}
+use Rattle.job_model.proofs.Ranks.{has_parent}
 
 -- ---- children stay, in their order
 
@@ -64,10 +65,6 @@ child_not_root size v p s h d a z =
     let k = (kept size v.seen s h).families.parents p d a in
     let m : None ≡ Some p = sym (root_parent size v.seen s h) ∙ ap (λ n. parent_of ((store_of v.seen).tree n)) (sym z) ∙ k in
     cc
-
-has_parent : (x : Option Job) (p : ℕ) → parent_of x ≡ Some p → is_some x ≡ true
-has_parent None p e = cc
-has_parent (Some j) p e = refl
 
 child_attached : (size : ForestSize) (v : Seen) (p d : ℕ) → IsSize size → IsDone (shape_of size) v.seen
     → is_among d (children_of ((store_of v.seen).tree p)) ≡ true → IsAttached v d
@@ -148,16 +145,12 @@ root_kind size log h = lasts_more (λ x. kind_of x ≡ Some (record { supervisor
 
 no_cause : (c : Cause) → is_cause c ≡ false → c ≡ because.None
 no_cause because.None e = refl
-no_cause because.Request e = cc
-no_cause (because.Failure f) e = cc
+no_cause other e = cc
 
 valued_rest : (s : JobState) (v : ℕ) (c : Cause) → is_valued s ≡ true → rest_of s v c ≡ v
-valued_rest New v c e = cc
-valued_rest Active v c e = cc
 valued_rest Completing v c e = refl
-valued_rest Cancelling v c e = cc
-valued_rest Cancelled v c e = cc
 valued_rest Completed v c e = refl
+valued_rest other v c e = cc
 
 some_row : (o : Option ℕ) → ((d : ℕ) → o ≡ Some d → d ≢ 0) → o ≡ row_from (row_code o)
 some_row None h = refl

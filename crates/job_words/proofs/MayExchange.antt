@@ -5,7 +5,7 @@ use Rattle.std.proofs.lemmas.Bool.{eqb-true}
 use mathlib.Core.Logic.{dite}
 use native.Mathlib.Decide.{dec_le}
 use Rattle.job_model.specs.declared.acts.JobState.{JobState}
-use Rattle.job_model.specs.declared.acts.JobState.TheVariants.{New, Active, Completing, Cancelling, Cancelled, Completed}
+use Rattle.job_model.specs.declared.acts.JobState.TheVariants.{Cancelled, Completed}
 use Rattle.job_model.specs.declared.acts.JobKind.{JobKind}
 use Rattle.job_model.specs.declared.acts.JobAct.TheVariants.{Attach}
 use Rattle.job_model.specs.Trees.{Shape, Job, Tree, is_ended, is_cancelled, is_cancelling}
@@ -270,12 +270,9 @@ stores_link size v who row old j new own m link lt = brings_link size v (StoreLi
 -- ---- attach
 
 cancelling_is : (x : JobState) → is_ended x ≡ false → is_cancelling x ≡ is_cancelled x
-cancelling_is New e = refl
-cancelling_is Active e = refl
-cancelling_is Completing e = refl
-cancelling_is Cancelling e = refl
 cancelling_is Cancelled e = cc
 cancelling_is Completed e = cc
+cancelling_is other e = refl
 
 pub may_have : (j : Job) (w : JobWord) (cancelled : Bool) → word_of j ≡ w → is_ended w.state ≡ false → cancelled ≡ is_cancelled w.state
     → MayHaveChild cancelled (Some j)

@@ -1,7 +1,8 @@
 -- What the parts of an attach come to.
 use Rattle.std.specs.Prelude.{◌≡◌, ◌≢◌, ℕ, ◌+◌, ◌*◌, ◌==◌, ◌<◌, ◌≤◌, Bool, true, false, ◌||◌, List, [], ◌∷◌, ◌++◌, Option, Some, None, MatchBool, is_some, option_map, length, not, if◌then◌else◌, refl}
-use Rattle.std.proofs.Common.{⊎_elim, sym, ap, ◌∙◌, subst, arith, eq-eqb, append_assoc}
+use Rattle.std.proofs.Common.{⊎_elim, sym, ap, ◌∙◌, subst, arith, append_assoc}
 use Rattle.std.proofs.lemmas.List.Sums.{length-filter, count_by-le-length}
+use Rattle.std.proofs.lemmas.Bool.{eqb-false, or_right}
 use Rattle.job_model.specs.declared.acts.JobKind.{JobKind}
 use Rattle.job_model.specs.declared.acts.JobAct.TheVariants.{Attach}
 use Rattle.job_model.proofs.Siblings.{attached_at}
@@ -27,9 +28,7 @@ use Rattle.job_words.proofs.StoreStaysSound.{kept, mine_kept}
 use Rattle.job_words.proofs.MayExchange.{claimed_word, put_same, word_is, word_stored, is_job, lasts_more, not_root, done_of_rest, read_word}
 use Rattle.job_words.proofs.NumbersStaySmall.{children_short, child_row}
 use Rattle.job_words.proofs.LostExchangesGrow.{mine_sees}
-
-not_equal : (n m : ℕ) → (n == m) ≡ false → n ≢ m
-not_equal n m e k = let v : true ≡ false = sym (eq-eqb n m k) ∙ e in cc
+use Rattle.job_model.proofs.RowMarks.{listed_some}
 
 first_needs : (shape : Shape) (s : Store) (d : Deed) → DoneFrom shape s (d ∷ []) → DeedNeeds shape s d
 unfolding DoneFrom
@@ -67,7 +66,7 @@ claim_told size who row n v w s key t = by_test (n == 0) refl t
     by_test false e q = (
       sees_goes who v w q.0,
       claimed_word (shape_of v.key) (store_of w.seen) row n
-          (kept v.key w.seen (subst IsSize (sym key) s) q.0.done) (q.1.job row refl) (not_equal n 0 e),
+          (kept v.key w.seen (subst IsSize (sym key) s) q.0.done) (q.1.job row refl) (eqb-false n 0 e),
     )
 
 -- ---- the two stores
@@ -101,7 +100,7 @@ link_told who row old new n v w mine t = by_test (n == old) refl t
           (record { claimer = k.claimer; tree = k.tree; link = put_same row new s.links; job = k.job }),
     )
     by_test false e q = let m = mine_sees who row old mine.0 v w q.0 mine.1
-        in absurd (not_equal n old e (unattached_link (store_of w.seen) row n m.tree
+        in absurd (eqb-false n old e (unattached_link (store_of w.seen) row n m.tree
         (q.1.link row (not_root v.key w.seen row q.0.done m.tree) refl) ∙ m.link))
 
 pub job_told : (who row old new n : ℕ) (v w : Seen) → (l : ℕ) × IsMine who row l old (store_of v.seen)
@@ -122,7 +121,7 @@ job_told who row old new n v w mine t = by_test (n == old) refl t
     )
     by_test false e q =
         let m = mine_sees who row mine.0 old v w q.0 mine.1 in
-        absurd (not_equal n old e (q.1.job row refl ∙ word_stored (store_of w.seen) row m.tree ∙ m.job))
+        absurd (eqb-false n old e (q.1.job row refl ∙ word_stored (store_of w.seen) row m.tree ∙ m.job))
 
 -- what was stored in the caller's row stands there once it is attached
 pub attached_words : (who p row l j word old : ℕ) (kind : JobKind) (tag : ℕ) (cancelled : Bool) (v w : Seen)
@@ -214,12 +213,8 @@ older_all : (P : ℕ → Type 0) (o : Option ℕ) (r : ℕ) (l : List ℕ) → P
     → P (row_code (older_after o r l))
 older_all P o r [] z h k = z
 older_all P o r (c ∷ cs) z h k = by_test (r == c) (older_all P (Some c) r cs z (k c (ap (λ b. b || is_among c cs) (same c)))
-    (λ d a. k d (later (d == c) (is_among d cs) a)))
+    (λ d a. k d (or_right (d == c) (is_among d cs) a)))
   where
-    later : (a b : Bool) → b ≡ true → (a || b) ≡ true
-    later true b e = refl
-    later false b e = e
-
     by_test : (b : Bool) → P (row_code (older_after (Some c) r cs)) → P (row_code (if b then o else older_after (Some c) r cs))
     by_test true m = h
     by_test false m = m
@@ -233,14 +228,10 @@ children_in : (shape : Shape) (tree : Tree) (o : Option ℕ) → HasFamilies tre
 children_in shape tree None h w c a = absurd (let k : false ≡ true = a in cc)
 children_in shape tree (Some p) h w c a = child_row shape tree p c h w a
 
-among_some : (c : ℕ) (x : Option Job) → is_among c (children_of x) ≡ true → is_some x ≡ true
-among_some c None e = cc
-among_some c (Some j) e = refl
-
 parent_in : (shape : Shape) (tree : Tree) (r : ℕ) (o : Option ℕ) → parent_of (tree r) ≡ o → HasFamilies tree
     → ((q : ℕ) → is_some (tree q) ≡ true → q < shape.rows) → 0 < shape.rows → row_code (parent_of (tree r)) < shape.rows
 parent_in shape tree r None e h w lt = subst (λ x. row_code x < shape.rows) (sym e) lt
-parent_in shape tree r (Some p) e h w lt = subst (λ x. row_code x < shape.rows) (sym e) (w p (among_some r (tree p) (h.listed p r e)))
+parent_in shape tree r (Some p) e h w lt = subst (λ x. row_code x < shape.rows) (sym e) (w p (listed_some r (tree p) (h.listed p r e)))
 
 -- the link word of an attached child, by its number
 pub link_seen : (size : ForestSize) (v : Seen) (r n : ℕ) → IsSize size → IsDone (shape_of size) v.seen → IsAttached v r → r ≢ 0

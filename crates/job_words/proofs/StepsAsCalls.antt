@@ -2,7 +2,7 @@
 use Rattle.std.specs.Prelude.{◌≡◌, ℕ, Bool, true, false, ◌||◌, List, [], ◌∷◌, ◌++◌, Option, Some, None, is_some, if◌then◌else◌, refl}
 use Rattle.co_base.proofs.Orders.{order_then}
 use Rattle.std.proofs.Common.{sym, ap, ◌∙◌, subst, arith, append_assoc, append-nil}
-use Rattle.std.proofs.lemmas.Bool.{eq-eqb}
+use Rattle.std.proofs.lemmas.Bool.{eq-eqb, false≢true}
 use mathlib.Core.List.{IsPrefix}
 use Rattle.co_base.specs.Orders.{Side}
 use Rattle.job_model.specs.declared.acts.JobAct.{JobAct}
@@ -35,9 +35,6 @@ has_claims size tags log order s h = record {
 
 -- ---- one step, or several
 
-false_not : {P : Type 0} → false ≡ true → P
-false_not e = absurd (let k : false ≡ true = e in cc)
-
 pub claimed_of : (size : ForestSize) (tags us : List ℕ) (xs rest : List Deed) (before after : List Side) (who : ℕ) (rows : List ℕ)
     → IsDone (shape_of size) (xs ++ rest) → rows_claimed (entries_of doer who rest) ≡ rows
     → Claimed who rows (floor_of size tags xs before) (floor_of size us (xs ++ rest) after)
@@ -46,7 +43,7 @@ claimed_of size tags us xs rest before after who rows h e = let d = (IsDone-rest
   fresh = λ r k. claims_fresh (shape_of size) (store_of xs) rest who r d (ap (is_among r) e ∙ k);
   mine = λ r. ap (λ s. is_claimed_by who (s.claimer r)) (store_more xs rest) ∙ claims_mine (shape_of size) (store_of xs) rest who r d
       ∙ ap (λ l. is_claimed_by who ((store_of xs).claimer r) || is_among r l) e;
-  alone = λ k. false_not k;
+  alone = λ k. absurd (false≢true k);
 }
 
 pub mine_of : (xs rest : List Deed) (who : ℕ) → history_of (entries_of doer who rest) ≡ []
@@ -62,7 +59,7 @@ looked_of size tags xs rest who rows before after h m e order = record {
   same = record { shape = refl; alone = refl; callers = refl; order = order; joint = refl };
   longer = (history_of rest, sym (history-append xs rest));
   mine = mine_of xs rest who m;
-  alone = λ k. false_not k;
+  alone = λ k. absurd (false≢true k);
   spare = omega arith;
   claims = claimed_of size tags tags xs rest before after who rows h e;
 }
@@ -102,7 +99,7 @@ made_with who act rows word old v m w g d = (
     mine = ap (λ l. acts_of who (history_of l)) there ∙ mine_of v.seen more who no_entry;
     last = ap history_of d.seen ∙ history-append (m.seen ++ d.others) (e ∷ [])
         ∙ ap (λ l. history_of (m.seen ++ d.others) ++ l) (own_entry who act);
-    alone = λ k. false_not k;
+    alone = λ k. absurd (false≢true k);
     spare = omega arith;
     claims = subst (λ (x : ForestSize × List Deed). Claimed who rows (floor_seen v) (floor_of x.0 w.tags x.1 w.order))
         (λ i. (sym (d.key ∙ g.key) i, sym (seen ∙ append_assoc v.seen more (e ∷ [])) i))

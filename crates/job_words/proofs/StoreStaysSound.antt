@@ -310,18 +310,14 @@ mine_kept shape s (d ∷ ds) who row l j h p m = let a = apart_first who d ds p
 
 link_deed : (shape : Shape) (s : Store) (d : Deed) (row : ℕ) → DeedNeeds shape s d → is_some (s.tree row) ≡ true
     → (after_deed s d).links row ≡ s.links row
-link_deed shape s (Act e) row n a = refl
-link_deed shape s (Claim t q) row n a = refl
 link_deed shape s (StoreLink t q w) row n a = put_here q row w s.links (λ x. x ≡ s.links row)
     (λ e. absurd (some_not (s.tree row) (ap s.tree (sym e) ∙ n.1) a)) (λ u. refl)
-link_deed shape s (StoreJob t q w) row n a = refl
+link_deed shape s other row n a = refl
 
 attached_deed : (shape : Shape) (s : Store) (d : Deed) (row : ℕ) → DeedNeeds shape s d → is_some (s.tree row) ≡ true
     → is_some ((after_deed s d).tree row) ≡ true
 attached_deed shape s (Act e) row n a = act_keeps (λ x. is_some x ≡ true) attached_lasts shape s.tree e.who e.act row n.0 a
-attached_deed shape s (Claim t q) row n a = a
-attached_deed shape s (StoreLink t q w) row n a = a
-attached_deed shape s (StoreJob t q w) row n a = a
+attached_deed shape s other row n a = a
 
 pub links_more : (shape : Shape) (s : Store) (ds : List Deed) (row : ℕ) → DoneFrom shape s ds → is_some (s.tree row) ≡ true
     → (store_from s ds).links row ≡ s.links row

@@ -33,12 +33,14 @@ use Rattle.job_words.proofs.LostExchangesGrow.{grew, grew_more, lasts_goes, atta
 use Rattle.job_words.proofs.MayExchange.{read_word, lasts_more}
 use Rattle.job_model.proofs.Lasting.{Lasts, attached_lasts}
 use Rattle.std.proofs.lemmas.Bool.Decides.{nat_tests}
+use Rattle.std.proofs.lemmas.Bool.{or_right}
 use Rattle.job_words.proofs.PartsOfAnAttach.{job_seen, last_needs}
 use Rattle.job_words.proofs.ActsOnOneWord.{lives}
 use Rattle.job_model.proofs.Spans.{added_looked}
 use Rattle.job_model.proofs.Own.{own_body_kept, own_gone_kept}
 use Rattle.job_words.proofs.StoreStaysSound.{kept}
 use Rattle.job_words.proofs.ClaimedRows.{goes_self}
+use Rattle.job_model.proofs.RowMarks.{listed_some}
 
 -- the word had changed
 pub lost : (who row : ℕ) (w : JobWord) (u v x : Seen) → Sees who u v → IsAttached v row → IsWord v row w → Sees who v x
@@ -91,14 +93,10 @@ pub may_attached : (who : ℕ) (x : Option Job) → MayEndBody who x → is_some
 may_attached who None m = absurd m
 may_attached who (Some j) m = refl
 
-among_attached : (c : ℕ) (x : Option Job) → is_among c (children_of x) ≡ true → is_some x ≡ true
-among_attached c None e = cc
-among_attached c (Some j) e = refl
-
 -- the parent of a row is attached
 pub parent_attached : (size : ForestSize) (v : Seen) (row p : ℕ) → IsSize size → IsDone (shape_of size) v.seen
     → parent_of ((store_of v.seen).tree row) ≡ Some p → IsAttached v p
-parent_attached size v row p s h e = among_attached row ((store_of v.seen).tree p) ((kept size v.seen s h).families.listed p row e)
+parent_attached size v row p s h e = listed_some row ((store_of v.seen).tree p) ((kept size v.seen s h).families.listed p row e)
 
 -- and has a living child, where this one was not told gone
 pub living_some : (size : ForestSize) (who row p : ℕ) (v : Seen) (w : JobWord) → IsSize size → IsDone (shape_of size) v.seen
@@ -113,12 +111,11 @@ living_some size who row p v w s h m e k =
 
 has_end_at : (s : JobState) (w : JobWord) (b : Bool) → (is_running s ≡ true → b ≡ false) → b ≡ true → is_ended s ≡ false
     → IsSome (end_from w s)
-has_end_at New w b h e n = absurd (let k : true ≡ false = sym e ∙ h refl in cc)
-has_end_at Active w b h e n = absurd (let k : true ≡ false = sym e ∙ h refl in cc)
 has_end_at Completing w b h e n = refl
 has_end_at Cancelling w b h e n = refl
 has_end_at Cancelled w b h e n = cc
 has_end_at Completed w b h e n = cc
+has_end_at other w b h e n = absurd (let k : true ≡ false = sym e ∙ h refl in cc)
 
 pub has_end : (size : ForestSize) (v : Seen) (r : ℕ) (w : JobWord) → IsSize size → IsDone (shape_of size) v.seen → IsAttached v r
     → IsWord v r w → w.body_ended ≡ true → is_ended w.state ≡ false → IsSome (end_from w w.state)
@@ -286,12 +283,8 @@ older_at_all : (P : ℕ → Type 0) (o : Option ℕ) (r : ℕ) (l : List ℕ) (d
 older_at_all P o r [] d h k e = cc
 older_at_all P o r (c ∷ cs) d h k e = by_test (r == c) e
     (older_at_all P (Some c) r cs d (λ x f. let m : c ≡ x = cc
-    in subst P m (k c (ap (λ b. b || is_among c cs) (same c)))) (λ x a. k x (later (x == c) (is_among x cs) a)))
+    in subst P m (k c (ap (λ b. b || is_among c cs) (same c)))) (λ x a. k x (or_right (x == c) (is_among x cs) a)))
   where
-    later : (a b : Bool) → b ≡ true → (a || b) ≡ true
-    later true b f = refl
-    later false b f = f
-
     by_test : (b : Bool) → (if b then o else older_after (Some c) r cs) ≡ Some d → (older_after (Some c) r cs ≡ Some d → P d) → P d
     by_test true f rest = h d f
     by_test false f rest = rest f

@@ -10,7 +10,7 @@ use Rattle.joined_words.specs.Parts.{Part, entries_in, tag_in, tags_in, view_in,
 use Rattle.joined_words.specs.Tables.{state_in}
 use Rattle.joined_words.proofs.PartsOfLists.{prefix_in, tags-append, has_tag-in, entries_of-in}
 
-at_mapped : {A B : Type 0} (f : A → B) (xs : List A) (k : ℕ) (x : A) → get_elem? xs k ≡ some x → get_elem? (map f xs) k ≡ some (f x)
+pub at_mapped : {A B : Type 0} (f : A → B) (xs : List A) (k : ℕ) (x : A) → get_elem? xs k ≡ some x → get_elem? (map f xs) k ≡ some (f x)
 at_mapped f [] k x e = absurd (some-ne-none x (sym e))
 at_mapped f (y ∷ ys) zero x e = ap (λ z. some (f z)) (some-injective y x e)
 at_mapped f (y ∷ ys) (suc k) x e = at_mapped f ys k x e

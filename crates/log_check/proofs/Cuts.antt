@@ -1,21 +1,12 @@
 -- A text that is cut at a line.
-use Rattle.std.specs.Prelude.{◌≡◌, ◌<◌, ◌==◌, ℕ, List, [], ◌∷◌, ◌++◌, Some, length, refl}
+use Rattle.std.specs.Prelude.{◌≡◌, ◌==◌, ℕ, List, ◌∷◌, ◌++◌, Some}
 use Rattle.std.specs.List.{join_with_byte, slice_split}
-use Rattle.std.proofs.Common.{ap, arith, sym, ◌∙◌}
-use Rattle.std.proofs.lemmas.List.Splits.{join_with_byte-slice_split, length-slice_split}
+use Rattle.std.proofs.Common.{ap, sym, ◌∙◌}
+use Rattle.std.proofs.lemmas.List.Splits.{join_with_byte-slice_split}
 use denote.Ref.{Bor}
 use Rattle.report_reader.specs.Words.{parts}
 use Rattle.log_check.specs.Parts.{AreParts}
-
-some_parts : (line : List ℕ) (more : List (List ℕ)) → 0 < length more → join_with_byte 10 (line ∷ more) ≡ line
-    ++ 10 ∷ join_with_byte 10 more
-some_parts line [] some = absurd (omega (arith, some))
-some_parts line (part ∷ more) some = refl
-
-joined : (line text : List ℕ) → join_with_byte 10 (line ∷ slice_split (λ b. b == 10) text) ≡ line ++ 10 ∷ text
-joined line text =
-    some_parts line (slice_split (λ b. b == 10) text) (omega (arith, length-slice_split (λ b. b == 10) text))
-    ∙ ap (λ l. line ++ 10 ∷ l) (join_with_byte-slice_split 10 text)
+use Rattle.history_text.proofs.Parts.{joined}
 
 -- the line at which a text is cut, what stands before it, and what stands behind it
 pub cut_here : (word script line rest bytes : List ℕ) (next : Bor (List ℕ)) → line ≡ word

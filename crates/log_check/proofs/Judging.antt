@@ -29,11 +29,9 @@ books_same left right ls rs count n lines same left_is right_is are counted =
 
 by_lines : (v : LogVerdict) (p : Program) (text : List ℕ) (lines : List Line) → HasLines p text (Ok lines) → IsLinesVerdict v p lines
     → IsLogVerdict v p text
-by_lines (of_log.Stands root) p text lines has is = (lines, has, is)
-by_lines (of_log.MayNotCome n) p text lines has is = (lines, has, is)
-by_lines (of_log.NotSo n) p text lines has is = (lines, has, is)
 by_lines (of_log.NoItem n) p text lines has is = absurd is
 by_lines (of_log.NotShown n) p text lines has is = tt
+by_lines other p text lines has is = (lines, has, is)
 
 -- what is said of the lines of a text is said of the text
 pub of_lines : {H : Type 0} (r : Result (LogVerdict × H) Memory) (p : Program) (text : List ℕ) (lines : List Line) → HasLines p text (Ok lines)
@@ -43,9 +41,8 @@ of_lines (Err e) p text lines has is = tt
 
 by_text : (v : ScriptVerdict) (s : Subject) (p : Program) (script text : List ℕ) → Spells script p → IsVerdictBy v s p text
     → IsVerdictOn v s script text
-by_text (of_script.Log v) s p script text spelled is = (p, spelled, is)
-by_text (of_script.Report v) s p script text spelled is = (p, spelled, is)
 by_text (of_script.Fault fault) s p script text spelled is = absurd is
+by_text other s p script text spelled is = (p, spelled, is)
 
 -- what is said by a program is said by the text that spells it
 pub of_text : (r : Result Judged Memory) (s : Subject) (p : Program) (script text : List ℕ) → Spells script p

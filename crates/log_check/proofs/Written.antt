@@ -2,7 +2,6 @@
 use Rattle.std.specs.Prelude.{◌≡◌, ◌<◌, List, [], ◌∷◌, ◌++◌, length, map, set, slice_set, get_or}
 use Rattle.std.proofs.Common.{ap, sym, ◌∙◌}
 use Rattle.std.proofs.lemmas.List.{get_or-map, map-set}
-use Rattle.note_book.specs.declared.book.Item.{Item}
 use Rattle.note_book.specs.declared.notes.Notes.{Notes}
 use Rattle.note_book.specs.Books.{notes_of}
 use Rattle.history_text.specs.declared.line.Line.{Line}

@@ -22,8 +22,9 @@ use Rattle.run_laws.specs.Orders.{InOneOrder}
 use Rattle.call_meaning.proofs.OrderCounts.{fewer_channel_entries, fewer_job_entries}
 use Rattle.order_laws.specs.StaleAnswers.{noted, job_noted}
 use Rattle.order_laws.specs.LateReceives.{program, channels, jobs, books, wait}
-use Rattle.order_laws.proofs.PointsNoted.{along_rest, either_first, noted_at}
+use Rattle.order_laws.proofs.PointsNoted.{along_rest, noted_at}
 use Rattle.order_laws.proofs.ReceiverMoves.{told_behind}
+use Rattle.run_laws.proofs.OneOrder.{one_goes_on}
 
 abbrev now : Moment
 now = record { channels = channels; jobs = jobs }
@@ -77,7 +78,7 @@ crossed order hand resolved a b early done came running =
     let few = fewer_channel_entries resolved hand p in
     let no_way : ⊥ = omega (arith, few, came, early) in
     no_way)
-    (either_first hand resolved order a b)
+    (one_goes_on hand resolved order a b)
 
 received_late : (order hand : List Side) (items : List Item) (earlier : List Side) (more : List Told) → IsPrefix hand order
     → channel_entries_in hand ≤ 1 → 2 ≤ job_entries_in hand

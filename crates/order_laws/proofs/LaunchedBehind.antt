@@ -23,7 +23,8 @@ use Rattle.call_meaning.specs.Orders.{IsTrueAlong}
 use Rattle.run_laws.specs.Orders.{RunsAlong}
 use Rattle.call_meaning.proofs.OrderCounts.{fewer_channel_entries, fewer_job_entries}
 use Rattle.order_laws.specs.StaleAnswers.{noted, job_noted}
-use Rattle.order_laws.proofs.PointsNoted.{either_first, noted_at}
+use Rattle.order_laws.proofs.PointsNoted.{noted_at}
+use Rattle.run_laws.proofs.OneOrder.{one_goes_on}
 
 -- how far the two histories are where main has sent and has not launched, where the coroutine may run, and where it has done nothing and
 -- the channel is empty
@@ -48,7 +49,7 @@ module _ (p : Program) (now : Moment) (order : List Side) (tells : TellsApart no
       let few = fewer_job_entries first launch p in
       let no_way : ⊥ = omega (arith, few, attached, none) in
       no_way)
-      (either_first launch first order a b)
+      (one_goes_on launch first order a b)
 
   -- where it told first that its Job might run
   begun : (launch : List Side) → IsPrefix launch order → 1 ≤ channel_entries_in launch → job_entries_in launch ≡ 0

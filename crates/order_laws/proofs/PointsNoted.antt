@@ -1,6 +1,6 @@
 -- The point of an order at which a coroutine noted an item of its book; and of two points, one comes first.
-use Rattle.std.specs.Prelude.{◌≡◌, ◌⊎◌, List, [], ◌∷◌, ◌++◌, refl}
-use Rattle.std.proofs.Common.{ap, sym, ◌∙◌, subst, append_assoc, inl, inr, ⊎_elim}
+use Rattle.std.specs.Prelude.{◌≡◌, List, [], ◌∷◌, ◌++◌}
+use Rattle.std.proofs.Common.{ap, sym, ◌∙◌, subst, append_assoc}
 use Rattle.std.proofs.lemmas.List.{append-nil}
 use mathlib.Core.List.{IsPrefix}
 use Rattle.note_book.specs.declared.book.Item.{Item}
@@ -9,26 +9,12 @@ use Rattle.call_meaning.specs.Stories.{Story}
 use Rattle.co_base.specs.Orders.{Side}
 use Rattle.call_meaning.specs.Orders.{IsSoAlong, IsTrueAlong}
 use Rattle.run_laws.proofs.Prefixes.{prefix_then}
+use Rattle.run_laws.proofs.OneOrder.{same_tail}
 
 -- ---- two points
 
 same_first : {A : Type 0} (x y : A) (xs ys : List A) → x ∷ xs ≡ y ∷ ys → x ≡ y
 same_first x y xs ys e = cc
-
-pub same_rest : {A : Type 0} (x y : A) (xs ys : List A) → x ∷ xs ≡ y ∷ ys → xs ≡ ys
-same_rest x y xs ys e = cc
-
-pub either_first : {A : Type 0} (xs ys zs : List A) → IsPrefix xs zs → IsPrefix ys zs → IsPrefix xs ys ⊎ IsPrefix ys xs
-either_first [] ys zs p q = inl (ys, refl)
-either_first (x ∷ xs) [] zs p q = inr (x ∷ xs, refl)
-either_first (x ∷ xs) (y ∷ ys) zs (a, e) (b, f) =
-    let both : x ∷ (xs ++ a) ≡ y ∷ (ys ++ b) = e ∙ sym f in
-    let first : x ≡ y = same_first x y (xs ++ a) (ys ++ b) both in
-    let rest : xs ++ a ≡ ys ++ b = same_rest x y (xs ++ a) (ys ++ b) both in
-    ⊎_elim
-    (λ (p : IsPrefix xs ys). inl (p.0, ap (λ l. x ∷ l) p.1 ∙ ap (λ z. z ∷ ys) first))
-    (λ (p : IsPrefix ys xs). inr (p.0, ap (λ l. y ∷ l) p.1 ∙ ap (λ z. z ∷ xs) (sym first)))
-    (either_first xs ys (ys ++ b) (a, rest) (b, refl))
 
 -- ---- the point of a note
 
@@ -55,7 +41,7 @@ noted_at s order items earlier (note j ∷ told) [] i after e (at, so, rest) = (
       (subst (λ k. IsSoAlong s order items earlier (note k) at) (same_first j i (items_in told) after e) so),
 )
 noted_at s order items earlier (note j ∷ told) (b ∷ before) i after e (at, so, rest) =
-    let r = noted_at s order (items ++ j ∷ []) at told before i after (same_rest j b (items_in told) (before ++ i ∷ after) e) rest in
+    let r = noted_at s order (items ++ j ∷ []) at told before i after (same_tail j b (items_in told) (before ++ i ∷ after) e) rest in
     let noted : (items ++ j ∷ []) ++ before ≡ items ++ b ∷ before = append_assoc items (j ∷ []) before
     ∙ ap (λ k. items ++ k ∷ before) (same_first j b (items_in told) (before ++ i ∷ after) e) in (
       r.0,

@@ -21,9 +21,9 @@ use Rattle.script_meaning.specs.Moves.{Move}
 use Rattle.script_meaning.specs.Books.{Begins, Reaches}
 use Rattle.script_meaning.proofs.BooksGoOn.{items_in-append}
 use Rattle.run_laws.proofs.Prefixes.{prefix_then}
-use Rattle.order_laws.proofs.PointsNoted.{same_rest}
 use Rattle.order_laws.specs.StaleAnswers.{noted}
 use Rattle.order_laws.specs.LateReceives.{program, wait, after_wait, book_of_receiver}
+use Rattle.run_laws.proofs.OneOrder.{same_tail}
 
 -- ---- its first move
 
@@ -103,24 +103,17 @@ plainly x y _ _ _ e (PlainCall.at_once _ _ _ (AtOnce.takes c v q admits d)) z (r
 plainly x y _ _ _ e (PlainCall.refused _ _ _ (Refused.send c v u)) z (rest, p) = cc
 plainly x y _ _ _ e (PlainCall.refused _ _ _ (Refused.receive c u)) z (rest, p) = cc
 plainly x y _ _ _ e (PlainCall.no_place call all is) z p = absurd (no_spent call all e is p)
-plainly x y _ _ _ e (PlainCall.offers c v q admits d) z p = cc
-plainly x y _ _ _ e (PlainCall.offer_ends c v q admits settles all d s is) z p = cc
 plainly x _ _ _ _ e (PlainCall.awaits c q) (After.waits _ _) p =
     let same : c ≡ 0 = cc in
     subst (λ n. Awaits x (made (Await n q (wait_at n q) 0) ∷ []) (at_stage (stage.Waiting (wait_at n q)) x)) (sym same) (q, refl, refl)
+plainly x y _ _ _ e other z p = cc
 
 called : (x y : Config) (i : Instruction) (g : List Told) (a : Answer) → i ≡ line.Receive 0 → LineCalls program 1 x i g a
     → After program 1 x i a y → IsPrefix (items_in g) book_of_receiver → Awaits x g y
-called x y _ _ _ e (LineCalls.send c o g a h) z p = cc
 called x y _ _ _ e (LineCalls.receive c g a h) z p =
     let same : c ≡ 0 = cc in
     plainly x y (receives c) g a (ap receives same) h (subst (λ n. After program 1 x (line.Receive n) a y) same z) p
-called x y _ _ _ e (LineCalls.each c g a h) z p = cc
-called x y _ _ _ e (LineCalls.trysend c o g a h) z p = cc
-called x y _ _ _ e (LineCalls.tryreceive c g a h) z p = cc
-called x y _ _ _ e (LineCalls.select g a h) z p = cc
-called x y _ _ _ e (LineCalls.join job row g a n h) z p = cc
-called x y _ _ _ e (LineCalls.await job row g a n h) z p = cc
+called x y _ _ _ e other z p = cc
 
 from_line : (x y : Config) (g : List Told) → Move program 1 x g y → x.stage ≡ stage.Running → x.line ≡ 0
     → IsPrefix (items_in g) book_of_receiver → Awaits x g y
@@ -275,7 +268,7 @@ unfolding items_in
 await_noted = refl
 
 past_await : (items : List Item) → IsPrefix (noted (Await 0 0 wait 0) ∷ items) book_of_receiver → IsPrefix items settles_then
-past_await items (rest, p) = (rest, same_rest (noted (Await 0 0 wait 0)) (noted (Await 0 0 wait 0)) (items ++ rest) settles_then p)
+past_await items (rest, p) = (rest, same_tail (noted (Await 0 0 wait 0)) (noted (Await 0 0 wait 0)) (items ++ rest) settles_then p)
 
 further_on : (before g all : List Told) → all ≡ before ++ g → ToldBehind before → ToldBehind all
 further_on before g all e h = record {

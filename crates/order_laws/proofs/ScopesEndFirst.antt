@@ -21,7 +21,8 @@ use Rattle.run_laws.specs.Orders.{InOneOrder}
 use Rattle.call_meaning.proofs.OrderCounts.{fewer_channel_entries, fewer_job_entries}
 use Rattle.order_laws.specs.StaleAnswers.{noted, job_noted}
 use Rattle.order_laws.specs.BrokenScopes.{program, channels, jobs, books, wait, scoped}
-use Rattle.order_laws.proofs.PointsNoted.{either_first, noted_at}
+use Rattle.order_laws.proofs.PointsNoted.{noted_at}
+use Rattle.run_laws.proofs.OneOrder.{one_goes_on}
 
 abbrev now : Moment
 now = record { channels = channels; jobs = jobs }
@@ -92,7 +93,7 @@ crossed order refusal sight a b closed alive not_yet ended =
     let few = fewer_job_entries sight refusal p in
     let no_way : ⊥ = omega (arith, few, alive, ended) in
     no_way)
-    (either_first refusal sight order a b)
+    (one_goes_on refusal sight order a b)
 
 some : (0 < coroutine_count program) × (1 < coroutine_count program)
 unfolding layouts_from

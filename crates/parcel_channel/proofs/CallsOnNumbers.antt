@@ -30,9 +30,8 @@ close_callers who c v a b (Err x) h = h.looked.same.callers
 pub tried_offer_callers : (who c v : ℕ) (a b : Floor) (r : TriedOffer) → TriedOfferAnswer who c v a b r → b.callers ≡ a.callers
 tried_offer_callers who c v a b (tried_offer.Handed p t) h = h.made.same.callers
 tried_offer_callers who c v a b (tried_offer.Put p) h = h.same.callers
-tried_offer_callers who c v a b tried_offer.Full h = h.0.same.callers
 tried_offer_callers who c v a b (tried_offer.Closed x) h = h.looked.same.callers
-tried_offer_callers who c v a b tried_offer.Spent h = h.0.same.callers
+tried_offer_callers who c v a b other h = h.0.same.callers
 
 pub tried_callers : (who c : ℕ) (a b : Floor) (r : TriedGot) → TriedGotAnswer who c a b r → b.callers ≡ a.callers
 tried_callers who c a b (tried_got.Taken p v t) h = h.made.same.callers

@@ -1,5 +1,5 @@
 -- Parcels as they are made.
-use Rattle.std.specs.Prelude.{◌≡◌, ℕ, zero, suc, ◌==◌, ◌<◌, Bool, true, false, List, [], ◌∷◌, map, length, replicate, None, if◌then◌else◌, refl}
+use Rattle.std.specs.Prelude.{◌≡◌, ℕ, zero, suc, ◌==◌, ◌<◌, Bool, true, false, List, [], ◌∷◌, length, replicate, None, if◌then◌else◌, refl}
 use Rattle.std.proofs.Common.{get_or, sym, ap, ◌∙◌, subst, arith, eq-eqb, ne_eqb}
 use Rattle.std.proofs.lemmas.List.{length-map, length-replicate}
 use mathlib.Core.Option.{some, some-injective, some-ne-none}
@@ -12,16 +12,12 @@ use Rattle.parcel_channel.specs.declared.parcel.ParcelEntry.{ParcelEntry}
 use Rattle.parcel_channel.specs.Parcels.{state_from, LegalFrom, Legal, maker}
 use Rattle.parcel_channel.specs.Tables.{Fits, word_count, HoldsParcels}
 use Rattle.parcel_channel.specs.Seen.{Seen}
+use Rattle.joined_words.proofs.PartsOfTables.{at_mapped}
 
 at_replicate : {A : Type 0} (n k : ℕ) (x : A) → k < n → get_elem? (replicate n x) k ≡ some x
 at_replicate zero k x lt = absurd (omega (arith, lt))
 at_replicate (suc n) zero x lt = refl
 at_replicate (suc n) (suc k) x lt = at_replicate n k x (omega (arith, lt))
-
-at_mapped : {A B : Type 0} (f : A → B) (xs : List A) (k : ℕ) (x : A) → get_elem? xs k ≡ some x → get_elem? (map f xs) k ≡ some (f x)
-at_mapped f [] k x e = absurd (some-ne-none x (sym e))
-at_mapped f (y ∷ ys) zero x e = ap (λ z. some (f z)) (some-injective y x e)
-at_mapped f (y ∷ ys) (suc k) x e = at_mapped f ys k x e
 
 -- the first seat has the tag 0
 abbrev first_owner : ℕ → ℕ

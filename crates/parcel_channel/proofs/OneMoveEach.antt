@@ -2,7 +2,7 @@
 use Rattle.std.specs.Prelude.{◌≡◌, ℕ, ◌+◌, ◌==◌, ◌≤◌, Bool, true, false, List, [], ◌∷◌, ◌++◌, Option, Some, None, Result, Ok, Err, IfSome, if◌then◌else◌, refl}
 use Rattle.std.proofs.Common.{sym, ap, ◌∙◌, subst, arith, append_assoc, eq-eqb}
 use Rattle.parcel_channel.specs.declared.parcel.ParcelAct.{ParcelAct}
-use Rattle.parcel_channel.specs.declared.parcel.ParcelAct.TheVariants.{Draw, Miss, MoveIn, MoveOut, PutBack}
+use Rattle.parcel_channel.specs.declared.parcel.ParcelAct.TheVariants.{Draw, MoveIn, PutBack}
 use Rattle.parcel_channel.specs.declared.parcel.ParcelEntry.{ParcelEntry}
 use Rattle.worded.specs.Histories.{entries_of}
 use Rattle.parcel_channel.specs.Parcels.{Legal, maker, moved_by, moves}
@@ -82,11 +82,8 @@ module _ {T : Type 0} where
 
       by_act : (act : ParcelAct T) → often k (moves es) ≡ how_often (is_move_in k) es
           → often k (moved_by act ++ moves es) ≡ (if is_move_in k act then 1 + how_often (is_move_in k) es else how_often (is_move_in k) es)
-      by_act (Draw j) h = h
-      by_act Miss h = h
       by_act (MoveIn j v) h = test (j == k) (often k (moves es)) (how_often (is_move_in k) es) h
-      by_act (MoveOut j) h = h
-      by_act (PutBack j) h = h
+      by_act other h = h
 
   -- of two values of one number
   pub one_value : (n k : ℕ) (x : T) (log : List (ParcelEntry T)) → Legal n log → IsMove k x log → IsOnly k x log

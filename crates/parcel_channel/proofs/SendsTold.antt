@@ -25,10 +25,9 @@ module _ {T : Type 0} where
       (k, subst (λ (s : Seen T). PutAnswer parcels who x v s (Ok k)) (sym h.1) put, h.0)
   send_told parcels who k x v u w old new (sent.Waits wait set) put h =
       (k, subst (λ (s : Seen T). PutAnswer parcels who x v s (Ok k)) (sym h.2) put, h.0, h.1, h.3)
-  send_told parcels who k x v u w old new (sent.Closed y c) put h = (k, u, put, h.0, h.1, h.2 x (put_move parcels who k x v u put))
-  send_told parcels who k x v u w old new (sent.Spent y) put h = (k, u, put, h.0, h.1, h.2 x (put_move parcels who k x v u put))
   send_told parcels who k x v u w old new (sent.NoParcel y) put h = absurd h
   send_told parcels who k x v u w old new sent.Lost put h = (k, u, put, h.0, h.1)
+  send_told parcels who k x v u w old new other put h = (k, u, put, h.0, h.1, h.2 x (put_move parcels who k x v u put))
 
   pub tried_by : (t who k : ℕ) (u w : Seen T) (f old new : Floor) (r : ParcelOffered T) → t ≡ who → f ≡ old → NumberTried t k u w f new r
       → NumberTried who k u w old new r
@@ -41,8 +40,6 @@ module _ {T : Type 0} where
       (k, h.0, subst (λ (s : Seen T). PutAnswer parcels who x v s (Ok k)) (sym h.2) put, h.1)
   tried_told parcels who k x v u w old new (offered.Sent None) put h =
       (k, h.0, subst (λ (s : Seen T). PutAnswer parcels who x v s (Ok k)) (sym h.2) put, h.1)
-  tried_told parcels who k x v u w old new (offered.Full y) put h = (k, u, put, h.0, h.1, h.2 x (put_move parcels who k x v u put))
-  tried_told parcels who k x v u w old new (offered.Closed y c) put h = (k, u, put, h.0, h.1, h.2 x (put_move parcels who k x v u put))
-  tried_told parcels who k x v u w old new (offered.Spent y) put h = (k, u, put, h.0, h.1, h.2 x (put_move parcels who k x v u put))
   tried_told parcels who k x v u w old new (offered.NoParcel y) put h = absurd h
   tried_told parcels who k x v u w old new offered.Lost put h = (k, u, put, h.0, h.1)
+  tried_told parcels who k x v u w old new other put h = (k, u, put, h.0, h.1, h.2 x (put_move parcels who k x v u put))

@@ -137,11 +137,8 @@ module _ {T : Type 0} where
 
   pub late_step : (n : ℕ) (s : State T) (t who : ℕ) (act : ParcelAct T) → (t ≡ who → ⊥) → s.late who ≡ false
       → (after s t act).late who ≡ false
-  late_step n s t who (Draw k) ne h = h
   late_step n s t who Miss ne h = put_else t who true s.late ne ∙ h
-  late_step n s t who (MoveIn k v) ne h = h
-  late_step n s t who (MoveOut k) ne h = h
-  late_step n s t who (PutBack k) ne h = h
+  late_step n s t who other ne h = h
 
   -- ---- a parcel that somebody drew or took is left to it
 

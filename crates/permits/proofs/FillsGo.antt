@@ -5,7 +5,7 @@ use mathlib.Core.List.{IsPrefix}
 use Rattle.std.proofs.Common.{sym, ap, ◌∙◌, subst, arith, ⊎_elim}
 use Rattle.std.proofs.lemmas.Bool.{cases_lt, true≢false}
 use Rattle.channel_model.specs.declared.acts.Act.{Act}
-use Rattle.channel_model.specs.declared.acts.Act.TheVariants.{Hand, Put, Offer, Await, Take, Admit, Drop, Spurn, Close, Void, Drain, WakeClosed, Withdraw, Settle}
+use Rattle.channel_model.specs.declared.acts.Act.TheVariants.{Hand, Put, Await, Take, Withdraw, Settle}
 use Rattle.channel_model.specs.declared.acts.Kind.TheVariants.{Unlimited}
 use Rattle.channel_model.specs.Channels.{Shape, kind_at}
 use Rattle.channel_model.specs.Histories.{acts_of}
@@ -21,8 +21,9 @@ use Rattle.channel_calls.specs.Calls.{Tells, IsUntouched}
 use Rattle.channel_calls.proofs.Untold.{told_none, untouched_told}
 use Rattle.permits.specs.Parts.{is_on, is_permit_act, gives_permit, gets_permit, is_filler, given, gave, got, IsPermitPart, HoldsPermits, UsesPermits, MayFill}
 use Rattle.permits.specs.Answers.{GivesOne, GivenJust, GivesAll, GivesSome}
-use Rattle.permits.proofs.PartsGo.{count_append, count_push, one_true, one_false, got_on, given_on, filler_none, filler_first, filler_append, gave_filler, gave_other, part_push}
+use Rattle.permits.proofs.PartsGo.{count_append, one_true, one_false, got_on, given_on, filler_none, filler_first, filler_append, gave_filler, gave_other, part_push}
 use Rattle.permits.proofs.UsesGo.{told_adds, can_kept}
+use Rattle.channel_model.proofs.Apart.{how_many_push}
 
 -- ---- so many were given
 
@@ -41,18 +42,11 @@ pub record Filling (c n who value : ℕ) (floor : Floor) : Type 0 where
 elsewhere : (c : ℕ) (act : Act) → is_on c act ≡ false → is_permit_act c act ≡ true
 elsewhere c (Hand d p v) e = refl
 elsewhere c (Put d p v) e = refl
-elsewhere c (Offer d p v w k) e = ap not e
 elsewhere c (Await d p w k) e = ap (λ (b : Bool). not b || (k == 0)) e
 elsewhere c (Take d p v) e = refl
-elsewhere c (Admit d p) e = ap not e
-elsewhere c (Drop d p v) e = ap not e
-elsewhere c (Spurn d p v) e = ap not e
-elsewhere c (Close d v) e = ap not e
-elsewhere c (Void d) e = ap not e
-elsewhere c (Drain d p v) e = ap not e
-elsewhere c (WakeClosed d p) e = ap not e
 elsewhere c (Withdraw w why) e = refl
 elsewhere c (Settle w outcome) e = refl
+elsewhere c other e = ap not e
 
 all_elsewhere : (c : ℕ) (acts : List Act) → how_many (is_on c) acts ≡ 0 → list_all (is_permit_act c) acts ≡ true
 all_elsewhere c [] h = refl
@@ -105,8 +99,8 @@ one_given c n who value a d act lt added gives f =
     let acts = acts_of who a.seen in
     let fits = gives_fits c value act gives in
     let mine = sym added.mine in
-    let x = count_push (gives_permit c) acts act in
-    let y = count_push (gets_permit c) acts act in
+    let x = how_many_push (gives_permit c) acts act in
+    let y = how_many_push (gets_permit c) acts act in
     let x' = one_true (gives_permit c act) fits.2 in
     let y' = one_false (gets_permit c act) fits.3 in
     let given_now : given c (acts ++ act ∷ []) ≡ value + 1 = (let g = f.given_is in omega (arith, x, x', g)) in

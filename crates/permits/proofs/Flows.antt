@@ -2,7 +2,7 @@
 use Rattle.std.specs.Prelude.{◌≡◌, ℕ, ◌+◌, ◌<◌, ◌≤◌, ◌==◌, Bool, true, false, not, ◌&&◌, ◌||◌, cond, List, [], ◌∷◌, ◌++◌, filter, length, Option, Some, None, is_none, refl, if◌then◌else◌, MatchBool}
 use Rattle.std.specs.List.{list_all, list_any}
 use Rattle.std.proofs.Common.{sym, ap, ◌∙◌, subst, arith, ⊎_elim}
-use Rattle.std.proofs.lemmas.Bool.{eqb-true, cases_lt, true≢false}
+use Rattle.std.proofs.lemmas.Bool.{eqb-true, cases_lt, true≢false, not-true}
 use Rattle.std.proofs.lemmas.Bool.Decides.{nat_tests}
 use Rattle.co_base.specs.declared.names.WaitId.{WaitId}
 use Rattle.channel_model.specs.declared.acts.Act.{Act}
@@ -30,6 +30,7 @@ use Rattle.permits.specs.Parts.{gets_permit, gives_permit, is_permit_act, brings
 use Rattle.permits.specs.Sums.{sum_of, count_of}
 use Rattle.permits.specs.Laws.{was_handed, is_under_way, under_way}
 use Rattle.permits.proofs.Sums.{sum_same, sum_change, sum_next}
+use Rattle.channel_model.proofs.Resolutions.{holder_at_stands}
 
 abbrev wait_of : ℕ → ℕ → WaitId
 wait_of c p = record { channel = c; place = p }
@@ -518,20 +519,6 @@ withdraw_flows c who w how s not_handed h k l ends may = by_test (w.channel == c
 
 -- ---- the acts
 
-holder_stands : (waits : WaitId → Option Wait) (d p : ℕ) (os : List Standing) → OffersStand waits d os
-    → HolderStands waits d (holder_at p os)
-unfolding OffersStand
-holder_stands waits d p [] k = tt
-holder_stands waits d p (o ∷ os) k = by_place (o.place == p) (holder_stands waits d p os k.1)
-  where
-    by_place : (b : Bool) → HolderStands waits d (holder_at p os) → HolderStands waits d (if b then o.holder else holder_at p os)
-    by_place true j = k.0
-    by_place false j = j
-
-not_on : (b : Bool) → not b ≡ true → b ≡ false
-not_on true e = cc
-not_on false e = refl
-
 abbrev Step : ℕ → State → ℕ → Act → Type 0
 Step c s who act = Flows c (one (gets_permit c act)) (one (gives_permit c act)) s (after s who act)
 
@@ -580,22 +567,22 @@ step shape c s who act kind sound needs fits h = by_act act needs fits
     by_act : (act : Act) → Needs shape s who act → is_permit_act c act ≡ true → Step c s who act
     by_act (Hand d p v) n f = hand d p v (d == c) refl n
     by_act (Put d p v) n f = put d p v (d == c) refl n
-    by_act (Offer d p v w k) n f = stood_flows c 0 0 s _ _ _ _ (name_other who k c d p w _ s h (not_on (d == c) f) n.4)
+    by_act (Offer d p v w k) n f = stood_flows c 0 0 s _ _ _ _ (name_other who k c d p w _ s h (not-true (d == c) f) n.4)
     by_act (Await d p w k) n f = await d p k w (d == c) refl f n
     by_act (Take d p v) n f = take d p v (d == c) refl n
     by_act (Admit d p) n f =
-        let e = not_on (d == c) f in
+        let e = not-true (d == c) f in
         let q = put_flows c d (record (s.channels d) { queue = admitted p (s.channels d).queue }) s h e in
         goes_on c s _ _ q (holder_other c d (holder_at p (s.channels d).queue) resolved.Admitted _ q.plain
         (kept_same c d (record (s.channels d) { queue = admitted p (s.channels d).queue }) s e kept) e
-        (holder_stands s.waits d p (s.channels d).queue (sound.stand d).offers))
-    by_act (Drop d p v) n f = removed_other c d (s.channels d).queue s h (not_on (d == c) f)
-    by_act (Spurn d p v) n f = put_flows c d (record (s.channels d) { queue = spurned p (s.channels d).queue }) s h (not_on (d == c) f)
-    by_act (Close d v) n f = put_flows c d _ s h (not_on (d == c) f)
-    by_act (Void d) n f = put_flows c d _ s h (not_on (d == c) f)
-    by_act (Drain d p v) n f = offer_other c d (s.channels d).queue (λ k. resolved.Voided) s h kept (not_on (d == c) f)
+        (holder_at_stands s.waits d p (s.channels d).queue (sound.stand d).offers))
+    by_act (Drop d p v) n f = removed_other c d (s.channels d).queue s h (not-true (d == c) f)
+    by_act (Spurn d p v) n f = put_flows c d (record (s.channels d) { queue = spurned p (s.channels d).queue }) s h (not-true (d == c) f)
+    by_act (Close d v) n f = put_flows c d _ s h (not-true (d == c) f)
+    by_act (Void d) n f = put_flows c d _ s h (not-true (d == c) f)
+    by_act (Drain d p v) n f = offer_other c d (s.channels d).queue (λ k. resolved.Voided) s h kept (not-true (d == c) f)
         (sound.stand d).offers
-    by_act (WakeClosed d p) n f = first_other c d (s.channels d).receivers _ s h kept (not_on (d == c) f) (sound.stand d).receivers
+    by_act (WakeClosed d p) n f = first_other c d (s.channels d).receivers _ s h kept (not-true (d == c) f) (sound.stand d).receivers
     by_act (Withdraw w why) n f = withdraw_flows c who w (resolved.Withdrawn why) s refl h kept sound.placed (sound.ended w) n
     by_act (Settle w outcome) n f = settle_flows c who w outcome s h sound.placed n
 

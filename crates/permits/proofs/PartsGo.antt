@@ -3,23 +3,21 @@ use Rattle.std.specs.Prelude.{◌≡◌, ℕ, ◌+◌, ◌-◌, ◌≤◌, ◌�
 use mathlib.Core.List.{IsPrefix}
 use Rattle.std.proofs.Common.{sym, ap, ◌∙◌, subst, arith, inl, inr, ⊎_elim}
 use Rattle.channel_model.specs.declared.acts.Act.{Act}
-use Rattle.channel_model.specs.declared.acts.Act.TheVariants.{Hand, Put, Offer, Await, Take, Admit, Drop, Spurn, Close, Void, Drain, WakeClosed, Withdraw, Settle}
+use Rattle.channel_model.specs.declared.acts.Act.TheVariants.{Hand, Put, Take, Settle}
 use Rattle.channel_model.specs.Laws.{how_many}
 use Rattle.channel_model.proofs.Elements.{all_push}
 use Rattle.permits.specs.Parts.{is_on, gets_permit, gives_permit, is_permit_act, brings_element, got, given, is_filler, gave, held, IsPermitPart}
+use Rattle.channel_model.proofs.Others.{front_empty}
+use Rattle.channel_model.proofs.Apart.{how_many_push}
 
 -- ---- beginnings
-
-empty_left : {A : Type 0} (xs ys : List A) → xs ++ ys ≡ [] → xs ≡ []
-empty_left [] ys e = refl
-empty_left (x ∷ xs) ys e = cc
 
 -- a beginning of a list with one more is the whole, or one of the list
 pub begins_push : {A : Type 0} (bs rest xs : List A) (x : A) → bs ++ rest ≡ xs ++ x ∷ [] → (bs ≡ xs ++ x ∷ []) ⊎ IsPrefix bs xs
 begins_push [] rest xs x e = inr (xs, refl)
 begins_push (b ∷ bs) rest [] x e =
     let k : bs ++ rest ≡ [] = cc in
-    let n : bs ≡ [] = empty_left bs rest k in
+    let n : bs ≡ [] = front_empty bs rest k in
     let f : b ≡ x = cc in
     inl (ap (λ l. b ∷ l) n ∙ ap (λ y. y ∷ []) f)
 begins_push (b ∷ bs) rest (y ∷ ys) x e =
@@ -47,25 +45,11 @@ pub count_append : {X : Type 0} (p : X → Bool) (xs ys : List X) → how_many p
 count_append p [] ys = omega arith
 count_append p (x ∷ xs) ys = let k = count_append p xs ys in omega arith
 
-pub count_push : {X : Type 0} (p : X → Bool) (xs : List X) (x : X) → how_many p (xs ++ x ∷ []) ≡ how_many p xs + cond (p x) 1 0
-count_push p xs x = let k = count_append p xs (x ∷ []) in omega arith
-
 -- what gets or gives a permit of the channel names it
 gets_on : (c : ℕ) (act : Act) → is_on c act ≡ false → gets_permit c act ≡ false
-gets_on c (Hand d p v) e = refl
-gets_on c (Put d p v) e = refl
-gets_on c (Offer d p v w k) e = refl
-gets_on c (Await d p w k) e = refl
 gets_on c (Take d p v) e = e
-gets_on c (Admit d p) e = refl
-gets_on c (Drop d p v) e = refl
-gets_on c (Spurn d p v) e = refl
-gets_on c (Close d v) e = refl
-gets_on c (Void d) e = refl
-gets_on c (Drain d p v) e = refl
-gets_on c (WakeClosed d p) e = refl
-gets_on c (Withdraw w why) e = refl
 gets_on c (Settle w outcome) e = ap (λ (b : Bool). b && brings_element outcome) e
+gets_on c other e = refl
 
 gives_on : (c : ℕ) (act : Act) → is_on c act ≡ false → gives_permit c act ≡ false
 gives_on c (Hand d p v) e = e
@@ -156,7 +140,7 @@ gave_other c n acts e = ap (λ b. if b then given c acts - n else given c acts) 
 -- an act that gives nothing
 pub gave_same : (c n : ℕ) (acts : List Act) (act : Act) → gives_permit c act ≡ false → gave c n (acts ++ act ∷ []) ≡ gave c n acts
 gave_same c n acts act e =
-    let k : given c (acts ++ act ∷ []) ≡ given c acts = (let p = count_push (gives_permit c) acts act
+    let k : given c (acts ++ act ∷ []) ≡ given c acts = (let p = how_many_push (gives_permit c) acts act
     in let q = one_false (gives_permit c act) e in omega (arith, p, q)) in
     ap (λ b. if b then given c (acts ++ act ∷ []) - n else given c (acts ++ act ∷ [])) (filler_push c acts act e)
     ∙ ap (λ m. if is_filler c acts then m - n else m) k
@@ -167,7 +151,7 @@ pub gave_more : (c n : ℕ) (acts : List Act) (act : Act) → 1 ≤ how_many (is
 gave_more c n acts act h filled e = by_test (is_filler c acts) refl
   where
     more : given c (acts ++ act ∷ []) ≡ given c acts + 1
-    more = let p = count_push (gives_permit c) acts act in let q = one_true (gives_permit c act) e in omega (arith, p, q)
+    more = let p = how_many_push (gives_permit c) acts act in let q = one_true (gives_permit c act) e in omega (arith, p, q)
 
     by_test : (b : Bool) → is_filler c acts ≡ b → gave c n (acts ++ act ∷ []) ≡ gave c n acts + 1
     by_test true f =
@@ -213,7 +197,7 @@ pub goes_getting : (c n count : ℕ) (acts : List Act) (act : Act) (b : Bool) �
     → Goes c n count (count + cond b 1 0) acts (acts ++ act ∷ [])
 goes_getting c n count acts act b h is fits gives gets =
     let a = gave_same c n acts act gives in
-    let g = count_push (gets_permit c) acts act in
+    let g = how_many_push (gets_permit c) acts act in
     let e = same_one (gets_permit c act) b gets in
     let w = whole_covered c n acts h in
     record {
@@ -221,7 +205,7 @@ goes_getting c n count acts act b h is fits gives gets =
       count_is = omega (arith, a, g, e, w, is);
       filled = λ f k. (
           let p = f (sym (filler_push c acts act gives) ∙ k) in
-          let q = count_push (gives_permit c) acts act in
+          let q = how_many_push (gives_permit c) acts act in
           omega arith
           );
     }
@@ -233,7 +217,7 @@ pub goes_giving : (c n count : ℕ) (acts : List Act) (act : Act) → IsPermitPa
 goes_giving c n count acts act h is filled fits gives gets =
     let some : 1 ≤ how_many (is_on c) acts = (let k = got_on c acts in omega arith) in
     let a = gave_more c n acts act some filled gives in
-    let g = count_push (gets_permit c) acts act in
+    let g = how_many_push (gets_permit c) acts act in
     let e = one_false (gets_permit c act) gets in
     let w = whole_covered c n acts h in
     record {
@@ -241,7 +225,7 @@ goes_giving c n count acts act h is filled fits gives gets =
       count_is = omega (arith, a, g, e, w, is);
       filled = λ f k. (
           let p = f (sym (filler_append c acts (act ∷ []) some) ∙ k) in
-          let q = count_push (gives_permit c) acts act in
+          let q = how_many_push (gives_permit c) acts act in
           omega arith
           );
     }

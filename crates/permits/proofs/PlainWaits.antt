@@ -23,7 +23,7 @@ use Rattle.channel_model.specs.Laws.{how_many, IsStandingAt, HolderStands, Offer
 use Rattle.channel_model.proofs.Waits.{same_wait-eq, same_wait-refl}
 use Rattle.channel_model.proofs.Placed.{Placed, placed_after, start_placed, same_number}
 use Rattle.channel_model.proofs.OpenWaits.{after_open, start_open}
-use Rattle.channel_model.proofs.Apart.{filtered_less, how_many_push}
+use Rattle.channel_model.proofs.Apart.{filtered_less, how_many_push, admitted_less}
 use Rattle.channel_model.proofs.Elements.{all_first, all_rest}
 use Rattle.permits.specs.Parts.{is_permit_act}
 use Rattle.permits.proofs.PartsGo.{one_true, one_false}
@@ -144,18 +144,6 @@ fewer_held w test (o ∷ os) = by_test (test o) (fewer_held w test os)
     by_test : (b : Bool) → how_many (λ (x : Standing). is_held_by w x.holder) (filter test os) ≤ how_many
         (λ (x : Standing). is_held_by w x.holder) os → how_many (λ (x : Standing). is_held_by w x.holder)
         (if b then o ∷ filter test os else filter test os) ≤ how_many (λ (x : Standing). is_held_by w x.holder) (o ∷ os)
-    by_test true h = omega arith
-    by_test false h = omega arith
-
-admitted_less : (w : WaitId) (p : ℕ) (os : List Standing)
-    → how_many (λ (o : Standing). is_held_by w o.holder) (admitted p os) ≤ how_many (λ (o : Standing). is_held_by w o.holder) os
-admitted_less w p [] = omega arith
-admitted_less w p (o ∷ os) = by_test (o.place == p) (admitted_less w p os)
-  where
-    by_test : (b : Bool) → how_many (λ (x : Standing). is_held_by w x.holder) (admitted p os) ≤ how_many
-        (λ (x : Standing). is_held_by w x.holder) os → how_many (λ (x : Standing). is_held_by w x.holder)
-        (if b then record o { holder = None } ∷ os else o ∷ admitted p os) ≤ cond (is_held_by w o.holder) 1 0 + how_many
-        (λ (x : Standing). is_held_by w x.holder) os
     by_test true h = omega arith
     by_test false h = omega arith
 

@@ -1,6 +1,7 @@
 -- Who uses permits goes on to, by what a call tells.
-use Rattle.std.specs.Prelude.{◌≡◌, ℕ, ◌+◌, ◌<◌, ◌≤◌, ◌==◌, Bool, true, false, ◌&&◌, ◌||◌, cond, List, [], ◌∷◌, ◌++◌, length, Ok, refl}
+use Rattle.std.specs.Prelude.{◌≡◌, ℕ, ◌+◌, ◌<◌, ◌≤◌, ◌==◌, Bool, true, false, ◌&&◌, cond, List, [], ◌∷◌, ◌++◌, length, Ok, refl}
 use Rattle.std.proofs.Common.{sym, ap, ◌∙◌, subst, arith, append_assoc, Fits, w32}
+use Rattle.std.proofs.lemmas.Bool.{or_right}
 use Rattle.co_base.specs.declared.names.WaitId.{WaitId}
 use Rattle.channel_model.specs.declared.acts.Act.{Act}
 use Rattle.channel_model.specs.declared.acts.Act.TheVariants.{Hand, Put, Await, Take, Withdraw, Settle}
@@ -148,12 +149,9 @@ uses_taking {c} {n} {v} {count} {a} {d} t u =
 pub uses_awaiting : {c n count : ℕ} {w : WaitId} {a d : SeenOnChannels} → AwaitsOne c w a d → UsesPermits c n a.who count a.floor
     → UsesPermits c n a.who count d.floor
 uses_awaiting {c} {n} {count} {w} {a} {d} t u =
-    let r = uses_getting c n a.who count (Await c t.place w 0) false a.floor d.floor (told_adds t.told) u (or_true _) refl refl in
+    let r = uses_getting c n a.who count (Await c t.place w 0) false a.floor d.floor (told_adds t.told) u (or_right _ true refl) refl refl
+    in
     subst (λ m. UsesPermits c n a.who m d.floor) (let e : count + 0 ≡ count = omega arith in e) r
-  where
-    or_true : (b : Bool) → (b || true) ≡ true
-    or_true true = refl
-    or_true false = refl
 
 pub uses_given : {c n v count : ℕ} {a d : SeenOnChannels} → GivenJust c v a d → UsesPermits c n a.who (count + 1) a.floor
     → UsesPermits c n a.who count d.floor

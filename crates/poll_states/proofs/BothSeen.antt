@@ -15,7 +15,7 @@ use Rattle.job_model.specs.Floors.{Floor, Looked}
 use Rattle.job_model.proofs.Lasting.{tag_lasts}
 use Rattle.job_model.proofs.Own.{prefix_keeps}
 use Rattle.job_model.proofs.Spans.{claimed_then, moment_within, prefix_self, prefix_then, setting_then}
-use Rattle.script_meaning.specs.Bodies.{IsOwnRow, HasBodyAt}
+use Rattle.script_meaning.specs.Bodies.{IsOwnRow}
 use Rattle.poll_states.specs.declared.jobs.OwnState.{OwnState}
 use Rattle.poll_states.specs.Steps.{HasBody, IsSeenSo, IsSeenAs, OwnStateSeen, SeenBoth}
 

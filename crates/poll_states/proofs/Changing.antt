@@ -45,14 +45,11 @@ clauses_noted (b ∷ before) call later clauses more all is e none =
 looks_noted : (clauses : List Call) (told : List Told) (a : Answer) → SelectCall clauses told a → a ≡ LooksAgain → items_in told ≡ [] → ⊥
 looks_noted clauses _ _ (SelectCall.chooses passed later call group all a is h e) again none = once_not call group a h again
 looks_noted clauses _ _ (SelectCall.meets_close passed later call told all a is h e) again none = refused_not call told a h again
-looks_noted clauses _ _ (SelectCall.no_place passed later c v all is e) again none = cc
-looks_noted clauses _ _ (SelectCall.waits w group admits all p d e) again none = cc
-looks_noted clauses _ _ (SelectCall.resolved w before later call group admits all is p d e) again none = cc
 looks_noted clauses _ _ (SelectCall.stops_at_first later call stop all a is s e) again none =
     clauses_noted [] call later clauses stop all is e none
 looks_noted clauses _ _ (SelectCall.stops w before later call group stop admits all a is p s d e) again none =
     clauses_noted before call later clauses _ all is e none
-looks_noted clauses _ _ (SelectCall.stops_late w before later call group stop admits all a is p s d e) again none = cc
+looks_noted clauses _ _ other again none = cc
 
 pub turn_changes : (p : Program) (k : ℕ) (x : Config) (told : List Told) (y : Config) → IsProgram p → Fits p k x → MovesOnce p k x told y
     → y ≡ x → items_in told ≡ [] → ⊥

@@ -197,14 +197,12 @@ Answered (sends c v) a = (b : Answer) × IsSendEnd b × (meant b ≡ a)
 Answered (receives c) a = (b : Answer) × (is_done b ≡ false) × (meant b ≡ a)
 
 tried : (call : Call) (told : List Told) (a : AnswerMeant) → AtOnce call told a → AnsweredAtOnce call a
-tried _ _ _ (AtOnce.hands c v q) = (came.Done, (refl, refl), refl)
-tried _ _ _ (AtOnce.puts c v q more h) = (came.Done, (refl, refl), refl)
 tried _ _ _ (AtOnce.takes c v q admits h) = (came.Got v, refl, refl)
+tried _ _ _ other = (came.Done, (refl, refl), refl)
 
 found : (call : Call) (told : List Told) (a : AnswerMeant) → AtOnce call told a → Answered call a
-found _ _ _ (AtOnce.hands c v q) = (came.Done, (refl, refl), refl)
-found _ _ _ (AtOnce.puts c v q more h) = (came.Done, (refl, refl), refl)
 found _ _ _ (AtOnce.takes c v q admits h) = (came.Got v, refl, refl)
+found _ _ _ other = (came.Done, (refl, refl), refl)
 
 turned_away : (call : Call) (told : Told) (a : AnswerMeant) → Refused call told a → Answered call a
 turned_away _ _ _ (Refused.send c v u) = (came.Done, (refl, refl), refl)

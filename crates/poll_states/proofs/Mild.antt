@@ -7,7 +7,7 @@ use Rattle.co_base.specs.declared.names.WaitId.{WaitId}
 use Rattle.channel_model.specs.declared.acts.Act.TheVariants.{Settle}
 use Rattle.channel_model.specs.declared.acts.Settled.{Settled}
 use Rattle.job_model.specs.declared.acts.JobAct.{JobAct}
-use Rattle.job_model.specs.declared.acts.JobAct.TheVariants.{Attach, Start, EndBody, Cancel, Finish, Gone}
+use Rattle.job_model.specs.declared.acts.JobAct.TheVariants.{Finish}
 use Rattle.job_model.specs.declared.acts.JobNote.{JobNote}
 use Rattle.job_model.specs.declared.acts.JobNote.TheVariants as known
 use Rattle.job_model.specs.declared.acts.Reason.{Reason}
@@ -87,21 +87,12 @@ mild_no_close base items h = gentle_leaves base items (mild_gentle base items h)
 
 act_unfinished : (base : ℕ) (act : JobAct) (items : List Item) → is_no_finish act ≡ true
     → IsClosedNext base (finish_of (item.Job (known.Made act))) items
-act_unfinished base (Attach p q kind tag now) items e = tt
-act_unfinished base (Start q) items e = tt
-act_unfinished base (EndBody q v) items e = tt
-act_unfinished base (Cancel q reason) items e = tt
 act_unfinished base (Finish q end) items e = cc
-act_unfinished base (Gone q) items e = tt
+act_unfinished base other items e = tt
 
 note_unfinished : (base : ℕ) (n : JobNote) (items : List Item) → is_mild_note n ≡ true → IsClosedNext base (finish_of (item.Job n)) items
 note_unfinished base (known.Made act) items e = act_unfinished base act items e
-note_unfinished base (known.Saw row) items e = tt
-note_unfinished base (known.SawEnd row end) items e = tt
-note_unfinished base (known.Fail code) items e = tt
-note_unfinished base known.NoRow items e = tt
-note_unfinished base known.Used items e = tt
-note_unfinished base known.ParentEnded items e = tt
+note_unfinished base other items e = tt
 
 pub mild_closes : (base : ℕ) (items : List Item) → list_all (is_mild base) items ≡ true → ClosesAtOnce base items
 mild_closes base [] h = tt

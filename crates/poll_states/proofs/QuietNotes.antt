@@ -53,12 +53,7 @@ no_rows (item.Job n ∷ items) h = let two = both (is_ending_note n) (list_all i
 
     here : (n : JobNote) → is_ending_note n ≡ true → rows_in (job_acts_in items) ≡ [] → rows_in (job_act n ++ job_acts_in items) ≡ []
     here (known.Made act) e k = act_here act e k
-    here (known.Saw row) e k = k
-    here (known.SawEnd row end) e k = k
-    here (known.Fail code) e k = k
-    here known.NoRow e k = k
-    here known.Used e k = k
-    here known.ParentEnded e k = k
+    here other e k = k
 
 pub quiet_rows : (told : List Told) → AllPass is_quiet told → rows_in (job_acts_in (items_in told)) ≡ []
 quiet_rows told h = no_rows (items_in told) h

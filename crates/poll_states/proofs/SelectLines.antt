@@ -113,10 +113,9 @@ chosen_call calls n o told h = by_meets h.call o h.group h.clauses h.all h.meets
 
 after_chosen : (p : Program) (k : ℕ) (x y : Config) (a : Answer) (o : Outcome) → Comes a o → AfterChosen p k o x y
     → After p k x line.Select a y
-after_chosen p k x y _ _ Comes.sent h = subst (After p k x line.Select Done) (sym h.2) (After.chose_send h.0 h.1)
 after_chosen p k x y _ _ (Comes.got v) h = subst (After p k x line.Select (Got v)) (sym h.2) (After.chose_got h.0 v h.1)
-after_chosen p k x y _ _ (Comes.send_closed u) h = subst (After p k x line.Select Done) (sym h.2) (After.chose_send h.0 h.1)
 after_chosen p k x y _ _ (Comes.closed u) h = subst (After p k x line.Select (Closed u)) (sym h.2) (After.chose_closed h.0 u h.1)
+after_chosen p k x y _ _ other h = subst (After p k x line.Select Done) (sym h.2) (After.chose_send h.0 h.1)
 
 chosen_runs : (p : Program) (k : ℕ) (x y : Config) (o : Outcome) → AfterChosen p k o x y → wait_of y.stage ≡ None
 chosen_runs p k x y outcome.Sent h = ap (λ (z : Config). wait_of z.stage) h.2

@@ -47,9 +47,8 @@ module _ {T : Type 0} where
 
   names_later : (n : ℕ) (d : RingSide) (called : Called) (a b c : Sat T) → IsPrefix a.0.seen b.0.seen → NamesAll n d called b.0 c.0
       → NamesAll n d called a.0 c.0
-  names_later n d Nobody a b c h k = tt
-  names_later n d (One t) a b c h k = tt
   names_later n d (All m) a b c h k = moment_later n (λ s. (s.lines d).mask ≡ m) a.0 b.0 c.0 h k
+  names_later n d other a b c h k = tt
 
   -- nothing was done before
   pub named_then : (n : ℕ) (d : RingSide) (called : Called) (a b c : Sat T) → Does n d [] a b → Named n d b c called → Named n d a c called

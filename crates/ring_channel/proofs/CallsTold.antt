@@ -30,10 +30,7 @@ module _ {T : Type 0} where
 
   pub sent_same : (n places who : ℕ) (x : T) (v w : Seen T) (r : RingSent T) → SentAnswer n places who x v w r → Same v w
   sent_same n places who x v w (sent.Sent p) a = adds_same who _ v w a.0
-  sent_same n places who x v w (sent.Full y) a = adds_same who _ v w a.1
-  sent_same n places who x v w (sent.Closed y) a = adds_same who _ v w a.1
-  sent_same n places who x v w (sent.Spent y) a = adds_same who _ v w a.1
-  sent_same n places who x v w (sent.Passed y) a = adds_same who _ v w a.1
+  sent_same n places who x v w other a = adds_same who _ v w a.1
 
   pub got_same : (n who : ℕ) (v w : Seen T) (r : RingGot T) → GotAnswer n who v w r → Same v w
   got_same n who v w (got.Value p x) a = adds_same who _ v w a.0
@@ -56,10 +53,7 @@ module _ {T : Type 0} where
   sent_still : (n places who : ℕ) (x : T) (v w : Seen T) (r : RingSent T) → has_tag who v.tags ≡ true → IsIdle n v
       → SentAnswer n places who x v w r → IsIdle n w
   sent_still n places who x v w (sent.Sent p) own idle a = put_idle n who p x v w own idle a.0
-  sent_still n places who x v w (sent.Full y) own idle a = idle_none n who v w idle a.1
-  sent_still n places who x v w (sent.Closed y) own idle a = idle_none n who v w idle a.1
-  sent_still n places who x v w (sent.Spent y) own idle a = idle_none n who v w idle a.1
-  sent_still n places who x v w (sent.Passed y) own idle a = idle_none n who v w idle a.1
+  sent_still n places who x v w other own idle a = idle_none n who v w idle a.1
 
   pub sent_idle : (n places who : ℕ) (x : T) (v w : Seen T) (r : RingSent T) → has_tag who v.tags ≡ true → v.key ≡ n → w.key ≡ n
       → IsIdle v.key v → SentAnswer n places who x v w r → IsIdle w.key w
@@ -67,9 +61,7 @@ module _ {T : Type 0} where
 
   got_still : (n who : ℕ) (v w : Seen T) (r : RingGot T) → has_tag who v.tags ≡ true → IsIdle n v → GotAnswer n who v w r → IsIdle n w
   got_still n who v w (got.Value p x) own idle a = take_idle n who p v w own idle a.0
-  got_still n who v w got.Nothing own idle a = idle_none n who v w idle a.0
-  got_still n who v w got.Closed own idle a = idle_none n who v w idle a.0
-  got_still n who v w got.Passed own idle a = idle_none n who v w idle a.0
+  got_still n who v w other own idle a = idle_none n who v w idle a.0
 
   pub got_idle : (n who : ℕ) (v w : Seen T) (r : RingGot T) → has_tag who v.tags ≡ true → v.key ≡ n → w.key ≡ n → IsIdle v.key v
       → GotAnswer n who v w r → IsIdle w.key w

@@ -12,14 +12,6 @@ use Rattle.ring_channel.proofs.StoreTells.{adds_sees, sees_of, fits_now, seated_
 odd_tail : (m p : ℕ) → m ≡ 2 * p + 1 → m % 2 ≡ 1
 odd_tail m p e = omega (arith, e)
 
-even_tail : (m p : ℕ) → m ≡ 2 * p + 0 → m % 2 ≡ 1 → ⊥
-even_tail m p e odd = omega (arith, e, odd)
-
--- whether a tail is odd
-pub closed_if : (m p : ℕ) (b : Bool) → m ≡ 2 * p + bit b → m % 2 ≡ 1 → b ≡ true
-closed_if m p true e odd = refl
-closed_if m p false e odd = absurd (even_tail m p e odd)
-
 pub open_if : (m p : ℕ) (b : Bool) → m ≡ 2 * p + bit b → (m % 2 ≡ 1 → ⊥) → b ≡ false
 open_if m p true e even = absurd (even (odd_tail m p e))
 open_if m p false e even = refl

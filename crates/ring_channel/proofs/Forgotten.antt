@@ -1,5 +1,5 @@
 -- After each legal history of a ring, who waits while there is something for it is owed a call.
-use Rattle.std.specs.Prelude.{◌≡◌, ℕ, ◌+◌, ◌*◌, ◌%◌, ◌<◌, ◌≤◌, Bool, true, false, List, [], ◌∷◌, refl}
+use Rattle.std.specs.Prelude.{◌≡◌, ℕ, ◌+◌, ◌*◌, ◌%◌, ◌<◌, ◌≤◌, true, false, List, [], ◌∷◌, refl}
 use Rattle.std.proofs.Common.{sym, ap, ◌∙◌, subst, arith}
 use Rattle.std.specs.Int.{bit_at}
 use Rattle.std.proofs.lemmas.Nat.Bits.{bit_at-zero}
@@ -15,12 +15,6 @@ use Rattle.ring_channel.specs.declared.act.WaitStep.TheVariants.{Stand, Leave, C
 use Rattle.ring_channel.specs.Rings.{Cell, free, moving, standing, leaving, is_standing, up, State, Line, start, put, cleared, line_after, after, state_from, state_of, IsNothing, MayWait, Needs, LegalFrom, Legal}
 use Rattle.ring_channel.specs.Served.{HasOne, IsServed}
 use Rattle.ring_channel.proofs.HistoriesGoOn.{put_here, put_else}
-
--- one of them is true still
-put_true : (i u : ℕ) (f : ℕ → Bool) → f u ≡ true → put i true f u ≡ true
-put_true i u f is = dite (ℕ_discrete i u)
-    (λ e. ap (put i true f) (sym e) ∙ put_here i true f)
-    (λ ne. put_else i u true f ne ∙ is)
 
 -- of a side where there may be something for one, and where it may have ended
 record Owed (l : Line) (one end : Type 0) : Type 0 where

@@ -18,7 +18,7 @@ use Rattle.ring_channel.specs.Seen.{Seen, now_in, IsIdle}
 use Rattle.ring_channel.specs.Orders.{IsAt}
 use Rattle.ring_channel.specs.Passes.{values_of, values_until, left_in}
 use Rattle.ring_channel.proofs.Laps.{same_lap}
-use Rattle.ring_channel.proofs.StatesStaySound.{HoldsAt, Sound, SlotOk, sound_of, slot_of}
+use Rattle.ring_channel.proofs.StatesStaySound.{HoldsAt, Sound, SlotOk, sound_of, slot_of, le_up}
 use Rattle.ring_channel.proofs.StepsKeep.{head_word}
 use Rattle.ring_channel.proofs.InOrder.{kept_at, few_kept}
 use Rattle.ring_channel.proofs.NobodyHolds.{fresh_idle}
@@ -48,9 +48,6 @@ not_here q p m is lt le = omega (arith, is, lt, le)
 
 rest_few : (m a k : ℕ) → m ≤ a + k → m - a ≤ k
 rest_few m a k le = omega (arith, le)
-
-one_less : (m k : ℕ) → m ≤ k → m ≤ suc k
-one_less m k le = omega (arith, le)
 
 -- each slot is that of a place of the lap from p on
 pub each_slot : (p n k : ℕ) → 0 < n → k < n → (j : ℕ) × (j < n) × ((p + j) % n ≡ k)
@@ -176,7 +173,7 @@ module _ {T : Type 0} where
       past far = let none = none_here n s p h (subst (λ z. z ≤ p) h.long far) (in_lap s.takes k n (below_suc k n le)) in
           let few : length l ≤ k = subst (λ z. z ≤ k) (sym (length-drop s.takes s.sent)) (rest_few (length s.sent) s.takes k far) in
           ap (λ z. take k l ++ option_to_list z) none ∙ append-nil (take k l) ∙ take_all k l few
-          ∙ sym (take_all (suc k) l (one_less (length l) k few))
+          ∙ sym (take_all (suc k) l (le_up (length l) k few))
 
       here : (length s.sent ≤ p → ⊥) → take k l ++ option_to_list (rest_of (s.cells (p % n))) ≡ take (suc k) l
       here near = let v = has_at s.sent p (lt_of_not-le near) in

@@ -1,5 +1,5 @@
 -- Who looked, and saw that there may be something for one who waits: at a moment there was.
-use Rattle.std.specs.Prelude.{◌≡◌, ◌⊎◌, ℕ, suc, ◌+◌, ◌*◌, ◌%◌, ◌<◌, ◌≤◌, Bool, true, false, List, [], ◌∷◌, ◌++◌, refl}
+use Rattle.std.specs.Prelude.{◌≡◌, ◌⊎◌, ℕ, ◌+◌, ◌*◌, ◌%◌, ◌<◌, ◌≤◌, Bool, true, false, List, [], ◌∷◌, ◌++◌, refl}
 use Rattle.std.proofs.Common.{inl, inr, ⊎_elim, sym, ap, ◌∙◌, subst, append_assoc, append-nil}
 use Rattle.worded.specs.Exchanges.{Loaded}
 use Rattle.ring_channel.specs.declared.act.RingAct.{RingAct}
@@ -39,12 +39,8 @@ module _ {T : Type 0} where
   -- who goes to the next place finds something there
   goes_on : (n : ℕ) (s : State T) (d : RingSide) (who : ℕ) (act : RingAct T) → Needs n s who act
       → HasOne n s d ⊎ (front (after n s who act) d ≡ front s d)
-  goes_on n s Receive who (Put p x) q = inr refl
-  goes_on n s Receive who (Fill p x) q = inr refl
   goes_on n s Receive who (Take p) q = inl (subst (λ k. (s.at (k % n) ≡ k) × (is_standing (s.cells (k % n)) ≡ true)) q.0 (q.1, q.2))
-  goes_on n s Receive who (Free p) q = inr refl
-  goes_on n s Receive who Close q = inr refl
-  goes_on n s Receive who (Waiting e w) q = inr refl
+  goes_on n s Receive who other q = inr refl
   goes_on n s Send who (Put p x) q =
       inl (subst (λ k. (s.at (k % n) ≡ k) × (s.cells (k % n) ≡ free)) q.0 (q.3, q.4))
   goes_on n s Send who (Fill p x) q = inr refl

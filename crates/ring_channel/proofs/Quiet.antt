@@ -83,18 +83,14 @@ bit_kept who t Stand l ne h = set_other who t l.mask ne h
 bit_kept who t Leave l ne h = clear_more who t l.mask h
 bit_kept who t (Call u) l ne h = clear_more who u l.mask h
 bit_kept who t CallAll l ne h = bit_at-zero who
-bit_kept who t NoneWaits l ne h = h
-bit_kept who t NothingThere l ne h = h
-bit_kept who t GoesOn l ne h = h
+bit_kept who t other l ne h = h
 
 bit_back : (who t : ℕ) (w : WaitStep) (l : Line) → (t ≡ who → ⊥) → bit_at (line_after t w l).mask who ≡ 1 → bit_at l.mask who ≡ 1
 bit_back who t Stand l ne h = set_back who t l.mask ne h
 bit_back who t Leave l ne h = cleared_back who t l.mask h
 bit_back who t (Call u) l ne h = cleared_back who u l.mask h
 bit_back who t CallAll l ne h = absurd (not_one (sym (bit_at-zero who) ∙ h))
-bit_back who t NoneWaits l ne h = h
-bit_back who t NothingThere l ne h = h
-bit_back who t GoesOn l ne h = h
+bit_back who t other l ne h = h
 
 ones_back : (who t : ℕ) (w : WaitStep) (l : Line) → who < 64 → (t ≡ who → ⊥) → bit_at (line_after t w l).mask who ≡ 1 → l.ones who ≡ false
     → (line_after t w l).ones who ≡ false
@@ -102,10 +98,8 @@ ones_back who t Stand l lt ne b h = put_else t who true l.ones ne ∙ h
 ones_back who t Leave l lt ne b h = h
 ones_back who t (Call u) l lt ne b h = put_else u who true (put t false l.ones) (not_called l.mask who u lt b)
     ∙ put_else t who false l.ones ne ∙ h
-ones_back who t CallAll l lt ne b h = put_else t who false l.ones ne ∙ h
-ones_back who t NoneWaits l lt ne b h = put_else t who false l.ones ne ∙ h
-ones_back who t NothingThere l lt ne b h = put_else t who false l.ones ne ∙ h
 ones_back who t GoesOn l lt ne b h = h
+ones_back who t other l lt ne b h = put_else t who false l.ones ne ∙ h
 
 ends_back : (who t : ℕ) (w : WaitStep) (l : Line) → who < 64 → (t ≡ who → ⊥) → bit_at (line_after t w l).mask who ≡ 1 → l.ends who ≡ false
     → (line_after t w l).ends who ≡ false
@@ -113,10 +107,8 @@ ends_back who t Stand l lt ne b h = put_else t who true l.ends ne ∙ h
 ends_back who t Leave l lt ne b h = h
 ends_back who t (Call u) l lt ne b h = put_else u who true (put t false l.ends) (not_called l.mask who u lt b)
     ∙ put_else t who false l.ends ne ∙ h
-ends_back who t CallAll l lt ne b h = put_else t who false l.ends ne ∙ h
-ends_back who t NoneWaits l lt ne b h = put_else t who false l.ends ne ∙ h
 ends_back who t NothingThere l lt ne b h = h
-ends_back who t GoesOn l lt ne b h = put_else t who false l.ends ne ∙ h
+ends_back who t other l lt ne b h = put_else t who false l.ends ne ∙ h
 
 one_kept : (v : Level) (who t : ℕ) (l : Line) → (t ≡ who → ⊥) → At v who l → At v who (owes_one t l)
 one_kept any who t l ne h = tt
@@ -149,10 +141,8 @@ module _ {T : Type 0} where
   ones_kept n s who t d Leave q ne b h = h
   ones_kept n s who t d (Call u) q ne b h = put_else u who true (put t false (s.lines d).ones) (two_tags (s.lines d).mask u who q b)
       ∙ put_else t who false (s.lines d).ones ne ∙ h
-  ones_kept n s who t d CallAll q ne b h = put_else t who false (s.lines d).ones ne ∙ h
-  ones_kept n s who t d NoneWaits q ne b h = put_else t who false (s.lines d).ones ne ∙ h
-  ones_kept n s who t d NothingThere q ne b h = put_else t who false (s.lines d).ones ne ∙ h
   ones_kept n s who t d GoesOn q ne b h = h
+  ones_kept n s who t d other q ne b h = put_else t who false (s.lines d).ones ne ∙ h
 
   ends_kept : (n : ℕ) (s : State T) (who t : ℕ) (d : RingSide) (w : WaitStep) → MayWait n s t d w → (t ≡ who → ⊥) → NoBit who (s.lines d)
       → (s.lines d).ends who ≡ false → (line_after t w (s.lines d)).ends who ≡ false
@@ -160,10 +150,8 @@ module _ {T : Type 0} where
   ends_kept n s who t d Leave q ne b h = h
   ends_kept n s who t d (Call u) q ne b h = put_else u who true (put t false (s.lines d).ends) (two_tags (s.lines d).mask u who q b)
       ∙ put_else t who false (s.lines d).ends ne ∙ h
-  ends_kept n s who t d CallAll q ne b h = put_else t who false (s.lines d).ends ne ∙ h
-  ends_kept n s who t d NoneWaits q ne b h = put_else t who false (s.lines d).ends ne ∙ h
   ends_kept n s who t d NothingThere q ne b h = h
-  ends_kept n s who t d GoesOn q ne b h = put_else t who false (s.lines d).ends ne ∙ h
+  ends_kept n s who t d other q ne b h = put_else t who false (s.lines d).ends ne ∙ h
 
   line_kept : (v : Level) (n : ℕ) (s : State T) (who t : ℕ) (d : RingSide) (w : WaitStep) → who < 64 → MayWait n s t d w
       → (t ≡ who → ⊥) → At v who (s.lines d) → At v who (line_after t w (s.lines d))

@@ -1,6 +1,6 @@
 -- A book that a coroutine may write along an order is one along an order that goes on, and at moments of the two histories.
-use Rattle.std.specs.Prelude.{ℕ, zero, suc, ◌≤◌, List, [], ◌∷◌, length, take, refl}
-use Rattle.std.proofs.Common.{ap, arith}
+use Rattle.std.specs.Prelude.{ℕ, ◌≤◌, List, [], ◌∷◌, length}
+use Rattle.std.proofs.Common.{arith}
 use mathlib.Core.List.{IsPrefix}
 use Rattle.co_base.specs.Orders.{Side, channel_entries_in, job_entries_in}
 use Rattle.channel_model.specs.Channels.{Shape}
@@ -9,7 +9,7 @@ use Rattle.call_meaning.specs.Telling.{Told}
 use Rattle.call_meaning.specs.Stories.{Moment, IsBy, IsTrue, with_told, story_of}
 use Rattle.call_meaning.specs.Orders.{IsOrderOf, moment_at, IsTrueAlong}
 use Rattle.call_meaning.proofs.OrderCounts.{fewer_channel_entries, fewer_job_entries}
-use Rattle.call_meaning.proofs.Along.{along_later}
+use Rattle.call_meaning.proofs.Along.{along_later, take_front, take_prefix}
 use Rattle.script_grammar.specs.Programs.{Program}
 use Rattle.script_meaning.specs.Shapes.{floor_shape}
 use Rattle.script_meaning.specs.Configs.{Config}
@@ -40,20 +40,6 @@ runs_along_later p k now later order longer book x w b pre r =
     runs_along_after p k now later order longer book x few few_jobs b pre r
 
 -- ---- at moments
-
-take_front : {A : Type 0} (m n : ℕ) (xs : List A) → m ≤ n → IsPrefix (take m xs) (take n xs)
-take_front zero n xs h = (take n xs, refl)
-take_front (suc m) zero xs h = let none : ⊥ = omega (arith, h) in absurd none
-take_front (suc m) (suc n) [] h = ([], refl)
-take_front (suc m) (suc n) (x ∷ xs) h =
-    let less : m ≤ n = omega (arith, h) in
-    let r = take_front m n xs less in
-    (r.0, ap (λ l. x ∷ l) r.1)
-
-take_prefix : {A : Type 0} (n : ℕ) (xs : List A) → IsPrefix (take n xs) xs
-take_prefix zero xs = (xs, refl)
-take_prefix (suc n) [] = ([], refl)
-take_prefix (suc n) (x ∷ xs) = let r = take_prefix n xs in (r.0, ap (λ l. x ∷ l) r.1)
 
 -- the moments of two points
 points_go_on : (now : Moment) (a b : List Side) → IsPrefix a b → IsBy (moment_at now a) (moment_at now b)

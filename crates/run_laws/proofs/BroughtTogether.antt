@@ -1,11 +1,12 @@
 -- The floors of all are ended into those of the root, one after the other.
-use Rattle.std.specs.Prelude.{◌≡◌, ◌≢◌, ℕ, ◌<◌, ◌≤◌, Bool, true, false, ◌||◌, List, [], ◌∷◌, ◌++◌, length, map, Option, refl}
+use Rattle.std.specs.Prelude.{◌≡◌, ◌≢◌, ℕ, ◌<◌, ◌≤◌, Bool, true, false, List, [], ◌∷◌, ◌++◌, length, map, Option, refl}
 use Rattle.std.specs.List.{All}
 use Rattle.std.proofs.Common.{sym, ap, ◌∙◌, subst, arith}
 use Rattle.std.proofs.lemmas.List.{map-append, length-map}
 use Rattle.std.proofs.lemmas.List.Elements.{All-head, All-tail, All-cons, All-nil, All-push, All-weaker, All-map}
 use mathlib.Core.Logic.{dite}
 use native.Mathlib.Decide.{ℕ_discrete}
+use Rattle.std.proofs.lemmas.Bool.{or_left, or_right}
 use Rattle.channel_model.specs.Histories.{acts_of, Legal}
 use Rattle.channel_model.specs.Floors.{Floor as ChannelFloor}
 use Rattle.job_model.specs.declared.acts.End.{End}
@@ -26,14 +27,6 @@ use Rattle.run_laws.proofs.Prefixes.{prefix_then}
 use Rattle.co_base.proofs.Orders.{order_then}
 use Rattle.run_laws.proofs.RunsEnd.{run_rests}
 
-or_first : (a b : Bool) → a ≡ true → (a || b) ≡ true
-or_first true b e = refl
-or_first false b e = cc
-
-or_second : (a b : Bool) → b ≡ true → (a || b) ≡ true
-or_second true b e = refl
-or_second false b e = e
-
 -- what was brought there stays there
 pub brought_still : (p : Program) (c c' b : ChannelFloor) (j j' i : Floor) (s : Sight) → EndedOnChannels c c' b → EndedOnJobs j j' i
     → IsBroughtTo p c j s → IsBroughtTo p c' j' s
@@ -41,8 +34,8 @@ brought_still p c c' b j j' i s calls jobs h = record {
   keeps = h.keeps;
   shape = calls.shape ∙ h.shape;
   job_shape = jobs.shape ∙ h.job_shape;
-  caller = calls.callers s.frame.tag ∙ or_first (c.callers s.frame.tag) (b.callers s.frame.tag) h.caller;
-  job_caller = jobs.callers s.frame.tag ∙ or_first (j.callers s.frame.tag) (i.callers s.frame.tag) h.job_caller;
+  caller = calls.callers s.frame.tag ∙ or_left (c.callers s.frame.tag) (b.callers s.frame.tag) h.caller;
+  job_caller = jobs.callers s.frame.tag ∙ or_left (j.callers s.frame.tag) (i.callers s.frame.tag) h.job_caller;
   seen = record {
     channels = prefix_then _ _ _ h.seen.channels calls.longer;
     jobs = prefix_then _ _ _ h.seen.jobs jobs.longer;
@@ -61,8 +54,8 @@ brought_now p c c' j j' root s calls jobs there kr k = record {
   keeps = k;
   shape = calls.shape ∙ there.shape ∙ kr.stands.channels ∙ sym k.stands.channels;
   job_shape = jobs.shape ∙ there.job_shape ∙ kr.stands.jobs ∙ sym k.stands.jobs;
-  caller = calls.callers s.frame.tag ∙ or_second (c.callers s.frame.tag) (s.channels.callers s.frame.tag) k.stands.of_channels;
-  job_caller = jobs.callers s.frame.tag ∙ or_second (j.callers s.frame.tag) (s.jobs.callers s.frame.tag) k.stands.of_jobs;
+  caller = calls.callers s.frame.tag ∙ or_right (c.callers s.frame.tag) (s.channels.callers s.frame.tag) k.stands.of_channels;
+  job_caller = jobs.callers s.frame.tag ∙ or_right (j.callers s.frame.tag) (s.jobs.callers s.frame.tag) k.stands.of_jobs;
   seen = record { channels = calls.heard; jobs = jobs.heard; order = calls.heard_order; job_order = jobs.heard_order };
   same = record { calls = calls.theirs s.frame.tag k.stands.of_channels; jobs = jobs.theirs s.frame.tag k.stands.of_jobs };
   kept = λ r t e. jobs.heard_claims r t e;
@@ -139,7 +132,8 @@ module _ {X : Type 0} (at : X → Sight) where
           prefix_then _ _ _ look.before root.seen.jobs,
           look.holds,
         );
-      }) T (λ t. All-map (λ s. s.jobs.joint ≡ true) at (root1 ∷ others) (all_are (λ z. (at z).jobs.joint ≡ true) (joint t) (root1 ∷ others))))
+      }) T (λ t. All-map (λ s. s.jobs.joint ≡ true) at (root1 ∷ others)
+      (all_are (λ z. (at z).jobs.joint ≡ true) (joint t) (root1 ∷ others))))
     where
       tag : (at root1).frame.tag ≡ (at root0).frame.tag
       tag = ap (λ (f : Frame). f.tag) more.frame

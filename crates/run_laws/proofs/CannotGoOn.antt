@@ -80,36 +80,13 @@ scope_begun p k x s _ _ (AfterScope.failed f) = refl
 
 -- no move leads to where it has not begun
 move_begun : (p : Program) (k : ℕ) (x : Config) (group : List Told) (y : Config) → Move p k x group y → is_fresh y.stage ≡ false
-move_begun p k _ _ _ (Move.runs x s) = refl
-move_begun p k _ _ _ (Move.never_runs x s) = refl
 move_begun p k _ _ _ (Move.calls x y i group a at c f) = after_begun p k x i a y (ap is_fresh at.stage) f
 move_begun p k _ _ _ (Move.resumes x y w i outcome a s at m f) = after_begun p k x i a y (ap is_fresh s) f
-move_begun p k _ _ _ (Move.cancelled x w s) = refl
-move_begun p k _ _ _ (Move.gives_up x w group s g) = refl
 move_begun p k _ _ _ (Move.sees_job x y job row end s at n f) = await_begun x end y f
-move_begun p k _ _ _ (Move.closes x c group at g) = refl
-move_begun p k _ _ _ (Move.cancels_channel x c group at g) = refl
-move_begun p k _ _ _ (Move.yields x at) = refl
-move_begun p k _ _ _ (Move.stops_at_yield x at) = refl
-move_begun p k _ _ _ (Move.stops_at_join x job at) = refl
-move_begun p k _ _ _ (Move.launches x block how job now at) = refl
-move_begun p k _ _ _ (Move.launch_refused x block how job group at g) = refl
-move_begun p k _ _ _ (Move.enters x supervisor row now at) = refl
-move_begun p k _ _ _ (Move.enter_refused x supervisor group at g) = refl
-move_begun p k _ _ _ (Move.starts x job row group at n g) = refl
-move_begun p k _ _ _ (Move.cancels x job row newly group at n g) = refl
-move_begun p k _ _ _ (Move.fails x v at) = refl
-move_begun p k _ _ _ (Move.results x o at) = refl
-move_begun p k _ _ _ (Move.repeats x n at) = refl
-move_begun p k _ _ _ (Move.turns_again x head n es at e) = refl
-move_begun p k _ _ _ (Move.turns_no_more x head es at e) = refl
-move_begun p k _ _ _ (Move.receives_again x head es at e) = refl
 move_begun p k _ _ _ (Move.ends_scope x y s end group all a at e b c f is) = end_begun k x s a y f
-move_begun p k _ _ _ (Move.scope_ended x w n v s) = refl
 move_begun p k _ _ _ (Move.sees_scope x y s end t e f) = scope_begun p k x s end y f
 move_begun p k _ _ _ (Move.breaks_scope x y s failure break group all a t e b c f is) = end_begun k x s a y f
-move_begun p k _ _ _ (Move.breaks x failure group s e b) = refl
-move_begun p k _ _ _ (Move.ends x group s e b) = refl
+move_begun p k _ _ _ other = refl
 
 begins_empty : (p : Program) (k : ℕ) (told : List Told) (x : Config) → k ≢ 0 → Begins p k told x → items_in told ≡ []
 unfolding items_in

@@ -1,6 +1,6 @@
 -- At the end of a run the Close of its done channel stands right behind each Finish, whoever else made entries meanwhile: a note that it
 -- had been closed would need a Close by one that noted the same Finish.
-use Rattle.std.specs.Prelude.{◌≡◌, ◌≢◌, ℕ, zero, suc, length, ◌+◌, ◌<◌, ◌≤◌, ◌==◌, nat_le, nat_lt, cond, Bool, true, false, not, List, [], ◌∷◌, ◌++◌, is_some, Some, refl, if◌then◌else◌, ◌⊎◌}
+use Rattle.std.specs.Prelude.{◌≡◌, ◌≢◌, ℕ, length, ◌+◌, ◌<◌, ◌≤◌, ◌==◌, nat_le, nat_lt, cond, Bool, true, false, not, List, [], ◌∷◌, ◌++◌, is_some, Some, refl, if◌then◌else◌, ◌⊎◌}
 use Rattle.std.proofs.Common.{sym, ap, ◌∙◌, subst, inl, inr, ⊎_elim, arith}
 use Rattle.std.proofs.lemmas.Bool.{eqb-true, eq-eqb}
 use Rattle.std.proofs.lemmas.Bool.Decides.{nat_tests}
@@ -15,7 +15,7 @@ use Rattle.channel_model.proofs.Later.{closed_later}
 use Rattle.channel_model.proofs.OneEntry.{closed_by_one}
 use Rattle.job_model.specs.declared.acts.End.{End}
 use Rattle.job_model.specs.declared.acts.JobAct.{JobAct}
-use Rattle.job_model.specs.declared.acts.JobAct.TheVariants.{Attach, Start, EndBody, Cancel, Finish, Gone}
+use Rattle.job_model.specs.declared.acts.JobAct.TheVariants.{Finish}
 use Rattle.job_model.specs.declared.acts.JobEntry.{JobEntry}
 use Rattle.job_model.specs.declared.acts.JobNote.{JobNote}
 use Rattle.job_model.specs.declared.acts.JobNote.TheVariants as known
@@ -41,7 +41,7 @@ use Rattle.call_meaning.specs.Endings.{ClosesAtOnce, IsClosedNext, finish_of}
 use Rattle.script_meaning.specs.Books.{story, Runs, book_at}
 use Rattle.script_meaning.proofs.Debts.{same_tail, not_empty}
 use Rattle.script_meaning.proofs.JobStories.{true_so}
-use Rattle.script_meaning.proofs.JobDebts.{parents_in, all_known}
+use Rattle.script_meaning.proofs.JobDebts.{parents_in, all_known, no_book}
 use Rattle.script_meaning.proofs.GroupNotes.{close_note, job_note}
 use Rattle.script_meaning.proofs.GentleNotes.{leaves_dones, is_no_finish, is_gentle, is_gentle_call, is_gentle_note}
 use Rattle.run_laws.specs.Parts.{AreParts}
@@ -80,12 +80,8 @@ gentle_closings base row (item.Channel n) more e = note_unclosed base row n more
 gentle_closings base row (item.Job n) more e = refl
 
 act_unfinished : (row : ℕ) (act : JobAct) → is_no_finish act ≡ true → finishes row act ≡ false
-act_unfinished row (Attach p q kind tag cancelled) e = refl
-act_unfinished row (Start q) e = refl
-act_unfinished row (EndBody q v) e = refl
-act_unfinished row (Cancel q reason) e = refl
 act_unfinished row (Finish q end) e = cc
-act_unfinished row (Gone q) e = refl
+act_unfinished row other e = refl
 
 note_unfinished : (row : ℕ) (n : JobNote) (more : List Item) → is_gentle_note n ≡ true
     → finishings row (item.Job n ∷ more) ≡ finishings row more
@@ -128,12 +124,8 @@ pub record Misses (base : ℕ) (items : List Item) : Type 0 where
   pub more : closings (base + row) items + 1 ≤ finishings row items
 
 act_next : (base : ℕ) (act : JobAct) (more : List Item) → is_no_finish act ≡ true → IsClosedNext base (finish_of (job_note act)) more
-act_next base (Attach p q kind tag cancelled) more e = tt
-act_next base (Start q) more e = tt
-act_next base (EndBody q v) more e = tt
-act_next base (Cancel q reason) more e = tt
 act_next base (Finish q end) more e = cc
-act_next base (Gone q) more e = tt
+act_next base other more e = tt
 
 gentle_next : (base : ℕ) (i : Item) (more : List Item) → is_gentle base i ≡ true → IsClosedNext base (finish_of i) more
 gentle_next base (item.Channel n) more e = tt
@@ -144,9 +136,6 @@ gentle_next base (item.Job (known.Fail code)) more e = tt
 gentle_next base (item.Job known.NoRow) more e = tt
 gentle_next base (item.Job known.Used) more e = tt
 gentle_next base (item.Job known.ParentEnded) more e = tt
-
-same_row : (row : ℕ) → (row == row) ≡ true
-same_row row = eq-eqb row row refl
 
 closes_or_misses : (base : ℕ) (items : List Item) → ClosesDones base items → Misses base items ⊎ ClosesAtOnce base items
 closes_or_misses base _ ClosesDones.none = inr tt
@@ -186,7 +175,7 @@ closes_or_misses base _ (ClosesDones.had_been r end v more h) = inl (record {
   before = finish_note r end ∷ [];
   after = more;
   parts = refl;
-  more = let less = few base r more h in let one : ◌≡◌ {A = ℕ} (cond (r == r) 1 0) 1 = ap (λ x. cond x 1 0) (same_row r)
+  more = let less = few base r more h in let one : ◌≡◌ {A = ℕ} (cond (r == r) 1 0) 1 = ap (λ x. cond x 1 0) (eq-eqb r r refl)
       in omega (arith, less, one);
 })
 
@@ -285,12 +274,6 @@ dones_of p books channels jobs ok parts k lt =
     (reach_told p k (parents_in jobs) runs.told (parts.ends_at k) ok
     (all_known (job_shape p) k jobs [] runs.told parts.legal_jobs (true_so (story p k now) [] beginning runs.told runs.is_true))
     runs.reaches)
-
--- past the last coroutine there is no book
-pub no_book : (books : List (List Item)) (k : ℕ) → length books ≤ k → book_at k books ≡ []
-no_book [] k le = refl
-no_book (b ∷ books) zero le = absurd (omega (arith, le))
-no_book (b ∷ books) (suc k) le = no_book books k (omega (arith, le))
 
 closes_none : (base : ℕ) → ClosesAtOnce base []
 closes_none base = tt

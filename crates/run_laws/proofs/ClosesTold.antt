@@ -1,6 +1,6 @@
 -- What a coroutine notes of the ends of Jobs: behind each Finish stands the Close of its done channel, or the note that this had been
 -- closed; and a done channel is closed nowhere else.
-use Rattle.std.specs.Prelude.{◌≡◌, ℕ, ◌<◌, nat_lt, length, Bool, true, false, List, [], ◌∷◌, ◌++◌, Option, Some, slice_get, refl}
+use Rattle.std.specs.Prelude.{◌≡◌, ℕ, ◌<◌, nat_lt, Bool, true, false, List, [], ◌∷◌, ◌++◌, Option, refl}
 use Rattle.std.specs.List.{list_all}
 use Rattle.std.proofs.Common.{sym, ap, subst, arith}
 use Rattle.std.proofs.lemmas.Bool.Decides.{nat_tests}
@@ -21,9 +21,6 @@ use Rattle.script_grammar.specs.declared.instructions.Instruction.{Instruction}
 use Rattle.script_grammar.specs.declared.instructions.Instruction.TheVariants as line
 use Rattle.script_grammar.specs.Programs.{Program}
 use Rattle.script_grammar.specs.WellFormed.{IsProgram}
-use Rattle.script_grammar.specs.Declarations.{names_channel}
-use Rattle.script_grammar.specs.Tags.{code_of}
-use Rattle.script_grammar.proofs.Layouts.{test_at, channels_known}
 use Rattle.script_meaning.specs.Shapes.{base_of}
 use Rattle.script_meaning.specs.Configs.{Config}
 use Rattle.script_meaning.specs.Lines.{LineCalls, clauses_at}
@@ -32,6 +29,7 @@ use Rattle.script_meaning.specs.Books.{Spawns, Begins, Reaches}
 use Rattle.script_meaning.proofs.JobDebts.{Parents, AllKnown, known_left, known_right}
 use Rattle.script_meaning.proofs.GroupNotes.{AllPass, PassesCalls, AllSpentPass, is_answer, close_note, job_note, both, all_none, job_fact, noted_all, wakes_all, closes_all, cancels_channel_all, plain_all, try_all, select_all, settle_all, gives_up_all, resumed_all, taken_back_all, saw_all, saw_end_all, fail_all, starts_all, both_all, passes_all, breaks_all}
 use Rattle.script_meaning.proofs.GentleNotes.{is_no_finish, is_gentle, is_gentle_call, below_dones, mild_allows, is_mild_call}
+use Rattle.script_laws.proofs.DonePlacesAsked.{declared}
 
 -- ---- the notes
 
@@ -99,10 +97,9 @@ all_spent base [] = tt
 all_spent base (call ∷ calls) = (refl, all_spent base calls)
 
 refusal_gentle : (base parent : ℕ) (scoped : Bool) (group : List Told) → NotAttached parent scoped group → DonesTold base group
-refusal_gentle base parent _ _ NotAttached.no_row = gentle_told base _ (noted_all (is_gentle base) _ [] refl (all_none (is_gentle base)))
-refusal_gentle base parent _ _ NotAttached.used = gentle_told base _ (noted_all (is_gentle base) _ [] refl (all_none (is_gentle base)))
 refusal_gentle base parent _ _ (NotAttached.parent_ended scoped) =
     gentle_told base _ (job_fact (is_gentle base) _ _ (noted_all (is_gentle base) _ [] refl (all_none (is_gentle base))))
+refusal_gentle base parent _ _ other = gentle_told base _ (noted_all (is_gentle base) _ [] refl (all_none (is_gentle base)))
 
 -- ---- the ends that follow
 
@@ -131,13 +128,10 @@ fact_told : (base : ℕ) (fact : JobFact) (more : List Told) → DonesTold base 
 unfolding items_in
 fact_told base fact more k = k
 
-no_more : {A : Type 0} (xs : List A) → xs ++ [] ≡ xs
-no_more xs = append-nil xs
-
 chain_told : (base row : ℕ) (group : List Told) → Chain base row group → DonesTold base group
 chain_told base _ _ (Chain.stops row) = fact_told base _ [] (nothing_told base)
 chain_told base _ _ (Chain.root end closing c) = told_as base _ (did (Finish 0 end) ∷ (closing ++ []))
-    (ap (λ l. did (Finish 0 end) ∷ l) (sym (no_more closing))) (finish_told base 0 end closing [] c (nothing_told base))
+    (ap (λ l. did (Finish 0 end) ∷ l) (sym (append-nil closing))) (finish_told base 0 end closing [] c (nothing_told base))
 chain_told base row group (Chain.goes_up _ parent end closing more _ n c h e) =
     told_as base group _ e (finish_told base row end closing (did (Gone row) ∷ on_jobs (ParentIs row parent) ∷ more) c
     (deed_told base (Gone row) _ refl (fact_told base _ more (chain_told base parent more h))))
@@ -155,11 +149,6 @@ breaks_told base parents k row failure group known b =
     (fact_told base _ b.end (ends_told base row 0 b.end b.ends)))
 
 -- ---- moves
-
--- a line names a declared channel
-declared : (p : Program) (k i : ℕ) (l : Instruction) → IsProgram p → slice_get (code_of p k) i ≡ Some l
-    → names_channel (length p.channels) l ≡ true
-declared p k i l ok at = test_at (names_channel (length p.channels)) (code_of p k) i l (channels_known p k ok) at
 
 low : (n c : ℕ) → nat_lt c n ≡ true → c < n
 low n c e = grind (arith, nat_tests)
@@ -187,8 +176,6 @@ line_told p k x _ _ _ (LineCalls.await job row g a n h) =
 move_told : (p : Program) (k : ℕ) (parents : Parents) (x : Config) (group : List Told) (y : Config) → IsProgram p → AllKnown parents group
     → Move p k x group y → DonesTold (base_of p) group
 move_told p k parents _ _ _ ok q (Move.runs x s) = fact_told (base_of p) _ [] (nothing_told (base_of p))
-move_told p k parents _ _ _ ok q (Move.never_runs x s) =
-    gentle_told (base_of p) _ (saw_all (is_gentle (base_of p)) (gentle_allows (base_of p)) _ [] (all_none (is_gentle (base_of p))))
 move_told p k parents _ _ _ ok q (Move.calls x y i g a at h f) = line_told p k x i g a h
 move_told p k parents _ _ _ ok q (Move.resumes x y w i outcome a s at m f) =
     gentle_told (base_of p) _ (resumed_all (is_gentle (base_of p)) (gentle_allows (base_of p)) w outcome _ _)
@@ -206,10 +193,6 @@ move_told p k parents _ _ _ ok q (Move.cancels_channel x c g at h) =
     gentle_told (base_of p) g (cancels_channel_all (is_gentle (base_of p)) (gentle_allows (base_of p)) c g
     (below_dones (base_of p) c (low (base_of p) c (declared p k x.line (line.CancelChannel c) ok at.line_is))) h)
 move_told p k parents _ _ _ ok q (Move.yields x at) = fact_told (base_of p) _ [] (nothing_told (base_of p))
-move_told p k parents _ _ _ ok q (Move.stops_at_yield x at) =
-    gentle_told (base_of p) _ (saw_all (is_gentle (base_of p)) (gentle_allows (base_of p)) _ [] (all_none (is_gentle (base_of p))))
-move_told p k parents _ _ _ ok q (Move.stops_at_join x job at) =
-    gentle_told (base_of p) _ (saw_all (is_gentle (base_of p)) (gentle_allows (base_of p)) _ [] (all_none (is_gentle (base_of p))))
 move_told p k parents _ _ _ ok q (Move.launches x block how job now at) = deed_told (base_of p) _ [] refl (nothing_told (base_of p))
 move_told p k parents _ _ _ ok q (Move.launch_refused x block how job g at h) = refusal_gentle (base_of p) _ false g h
 move_told p k parents _ _ _ ok q (Move.enters x supervisor row now at) = deed_told (base_of p) _ [] refl (nothing_told (base_of p))
@@ -237,6 +220,8 @@ move_told p k parents _ _ _ ok q (Move.breaks_scope x y s failure break g all a 
     (plain_told (base_of p) _ g a c))
 move_told p k parents _ _ _ ok q (Move.breaks x failure g s e h) = breaks_told (base_of p) parents k k failure g q h
 move_told p k parents _ _ _ ok q (Move.ends x g s e h) = ends_told (base_of p) k x.result g h
+move_told p k parents _ _ _ ok q other =
+    gentle_told (base_of p) _ (saw_all (is_gentle (base_of p)) (gentle_allows (base_of p)) _ [] (all_none (is_gentle (base_of p))))
 
 spawns_told : (p : Program) (base : ℕ) (blocks : List ℕ) (x y : Config) (group : List Told) → Spawns p blocks x group y
     → DonesTold base group

@@ -1,9 +1,9 @@
 -- What coroutines keep before their first poll.
 use Rattle.std.specs.Prelude.{◌≡◌, ◌≢◌, ℕ, ◌<◌, ◌==◌, Bool, true, false, ◌||◌, [], ◌∷◌, ◌++◌, Some, None, if◌then◌else◌, refl}
 use Rattle.std.specs.List.{list_any}
-use Rattle.std.proofs.Common.{sym, ap, ◌∙◌, subst, arith}
-use Rattle.std.proofs.lemmas.Bool.Decides.{nat_tests}
+use Rattle.std.proofs.Common.{sym, ap, ◌∙◌, subst}
 use Rattle.std.proofs.lemmas.List.{append-nil}
+use Rattle.std.proofs.lemmas.Bool.{eqb-true}
 use Rattle.co_base.proofs.Orders.{order_same}
 use Rattle.channel_model.specs.Histories.{acts_of}
 use Rattle.channel_model.specs.Floors.{Floor as ChannelFloor, Looked}
@@ -80,10 +80,7 @@ pub none_owned : (k r : ℕ) → k ≢ 0 → is_among r (own_rows k []) ≡ fals
 none_owned k r n = by_test (k == 0) refl
   where
     by_test : (b : Bool) → (k == 0) ≡ b → is_among r ((if b then 0 ∷ [] else []) ++ rows_in (job_acts_in [])) ≡ false
-    by_test true e = absurd (n (is_zero k e))
-      where
-        is_zero : (k : ℕ) → (k == 0) ≡ true → k ≡ 0
-        is_zero k e = grind (arith, nat_tests)
+    by_test true e = absurd (n (eqb-true k 0 e))
     by_test false e = is_among-rows_in r []
 
 pub keeps_fresh : (p : Program) (k : ℕ) (f : Frame) (c : ChannelFloor) (j : Floor) → k < coroutine_count p → k ≢ 0 → f.tag ≡ k

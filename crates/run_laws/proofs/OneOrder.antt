@@ -17,14 +17,14 @@ use Rattle.run_laws.specs.Orders.{RunsAlong, StandsAlong}
 use Rattle.run_laws.specs.Sights.{Sight}
 use Rattle.run_laws.specs.Ends.{IsBroughtTo, HaveOneOrder}
 use Rattle.run_laws.proofs.AlongLater.{runs_along_after}
-use Rattle.run_laws.proofs.Prefixes.{prefix_length}
+use Rattle.call_meaning.proofs.PointsOfMoments.{longer_list}
 
 -- ---- beginnings of one list
 
 same_head : {A : Type 0} (x y z : A) (xs ys zs : List A) → x ∷ xs ≡ z ∷ zs → y ∷ ys ≡ z ∷ zs → x ≡ y
 same_head x y z xs ys zs e f = cc
 
-same_tail : {A : Type 0} (x z : A) (xs zs : List A) → x ∷ xs ≡ z ∷ zs → xs ≡ zs
+pub same_tail : {A : Type 0} (x z : A) (xs zs : List A) → x ∷ xs ≡ z ∷ zs → xs ≡ zs
 same_tail x z xs zs e = cc
 
 -- of two of them the one goes on to the other
@@ -123,9 +123,9 @@ module _ (p : Program) (c : ChannelFloor) (j : Floor) where
   point_of s b a = (
     record {
       known = order_then a.point s.channels.order c.order a.at.channels b.seen.order;
-      few_channels = let few = a.at.few_channels in let more = prefix_length s.channels.seen c.seen b.seen.channels
+      few_channels = let few = a.at.few_channels in let more = longer_list s.channels.seen c.seen b.seen.channels
           in omega (arith, few, more);
-      few_jobs = let few = a.at.few_jobs in let more = prefix_length s.jobs.seen j.seen b.seen.jobs in omega (arith, few, more);
+      few_jobs = let few = a.at.few_jobs in let more = longer_list s.jobs.seen j.seen b.seen.jobs in omega (arith, few, more);
     },
     runs_along_after p s.frame.tag (seen_by s.channels s.jobs) (seen_by c j) a.point a.point s.frame.book s.frame.config a.at.few_channels
         a.at.few_jobs (record { channels = b.seen.channels; jobs = b.seen.jobs }) (order_same a.point) a.runs,
@@ -165,7 +165,8 @@ module _ (p : Program) (c : ChannelFloor) (j : Floor) where
       (longest sights (All-tail (IsBroughtTo p c j) s sights b) (All-tail (λ x. x.jobs.joint ≡ true) s sights joint))
 
   -- an order of both whole histories goes on from the longest
-  pub along_whole : (sights : List Sight) → All (IsBroughtTo p c j) sights → All (λ s. s.jobs.joint ≡ true) sights → HaveOneOrder p c j sights
+  pub along_whole : (sights : List Sight) → All (IsBroughtTo p c j) sights → All (λ s. s.jobs.joint ≡ true) sights
+      → HaveOneOrder p c j sights
   along_whole sights b joint =
       let one = longest sights b joint in
       let on = goes_on_to (length c.seen) (length j.seen) one.point one.at.few_channels one.at.few_jobs in

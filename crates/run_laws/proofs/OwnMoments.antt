@@ -3,8 +3,8 @@ use Rattle.std.specs.Prelude.{◌≡◌, ℕ, suc, ◌+◌, ◌==◌, true, List
 use Rattle.std.proofs.Common.{ap, sym, ◌∙◌, append_assoc, arith, length-append}
 use Rattle.std.proofs.Math.Seq.{take-append_seam}
 use Rattle.std.proofs.lemmas.List.{append_cancel_left}
-use Rattle.std.proofs.lemmas.Bool.Decides.{nat_tests}
 use mathlib.Core.List.{IsPrefix}
+use Rattle.std.proofs.lemmas.Bool.{eq-eqb}
 use Rattle.channel_model.specs.declared.acts.Act.{Act}
 use Rattle.channel_model.specs.declared.acts.Entry.{Entry}
 use Rattle.channel_model.specs.Histories.{acts_of}
@@ -28,9 +28,6 @@ module _ {E A : Type 0} (part : ℕ → List E → List A) (splits : (k : ℕ) (
       let number : length old + n ≡ length at = omega (arith, own, parts, sum, long, counted) in
       ap (λ m. take m whole) number ∙ ap (λ l. take (length at) l) (sym q) ∙ take-append_seam at b
 
-same_number : (n : ℕ) → (n == n) ≡ true
-same_number n = grind (arith, nat_tests)
-
 pub calls_are_all : (k : ℕ) (acts : List Act) (xs ys : List Entry) → xs ++ ys ≡ entries_by k acts → length (acts_of k xs) ≡ length xs
 unfolding acts_of
 calls_are_all k acts [] ys e = refl
@@ -38,7 +35,7 @@ calls_are_all k [] (x ∷ xs) ys e = cc
 calls_are_all k (act ∷ acts) (x ∷ xs) ys e =
     let rest : xs ++ ys ≡ entries_by k acts = cc in
     let first : x ≡ record { who = k; act = act } = cc in
-    let who : (x.who == k) ≡ true = ap (λ (y : Entry). y.who == k) first ∙ same_number k in
+    let who : (x.who == k) ≡ true = ap (λ (y : Entry). y.who == k) first ∙ eq-eqb k k refl in
     ap (λ b. length (if b then x.act ∷ acts_of k xs else acts_of k xs)) who ∙ ap suc (calls_are_all k acts xs ys rest)
 
 pub jobs_are_all : (k : ℕ) (acts : List JobAct) (xs ys : List JobEntry) → xs ++ ys ≡ job_entries_by k acts
@@ -49,5 +46,5 @@ jobs_are_all k [] (x ∷ xs) ys e = cc
 jobs_are_all k (act ∷ acts) (x ∷ xs) ys e =
     let rest : xs ++ ys ≡ job_entries_by k acts = cc in
     let first : x ≡ record { who = k; act = act } = cc in
-    let who : (x.who == k) ≡ true = ap (λ (y : JobEntry). y.who == k) first ∙ same_number k in
+    let who : (x.who == k) ≡ true = ap (λ (y : JobEntry). y.who == k) first ∙ eq-eqb k k refl in
     ap (λ b. length (if b then x.act ∷ job_acts_of k xs else job_acts_of k xs)) who ∙ ap suc (jobs_are_all k acts xs ys rest)

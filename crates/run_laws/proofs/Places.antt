@@ -3,6 +3,7 @@ use Rattle.std.proofs.Common.{Option, None, ◌≡◌, ◌≢◌, ℕ, ◌+◌, 
 use Rattle.std.specs.List.{All, sum_by}
 use Rattle.std.proofs.lemmas.List.Elements.{All-head, All-tail}
 use Rattle.std.proofs.lemmas.List.Sums.{sum_by-set}
+use Rattle.std.proofs.lemmas.Option.{get_or_from_slice_get}
 
 pub slice_get-set_same : {A : Type 0} (xs : List A) (k : ℕ) (y : A) → k < length xs → slice_get (set xs k y) k ≡ Some y
 slice_get-set_same [] k y lt = absurd (omega (arith, lt))
@@ -21,24 +22,19 @@ slice_get-Some [] k x lt e = absurd (omega (arith, lt))
 slice_get-Some (y ∷ xs) zero x lt e = ap (λ z. Some z) (sym e)
 slice_get-Some (y ∷ xs) (suc k) x lt e = slice_get-Some xs k x (omega (arith, lt)) e
 
-pub slice_get-get_or : {A : Type 0} (xs : List A) (k : ℕ) (x d : A) → slice_get xs k ≡ Some x → get_or xs k d ≡ x
-slice_get-get_or [] k x d e = cc
-slice_get-get_or (y ∷ xs) zero x d e = cc
-slice_get-get_or (y ∷ xs) (suc k) x d e = slice_get-get_or xs k x d e
-
 -- the sum rises by less than this where one element does
 pub sum_by-set_by : {A : Type 0} (f : A → ℕ) (xs : List A) (k : ℕ) (x y : A) (m : ℕ) → k < length xs → slice_get xs k ≡ Some x
     → f y < f x + m → sum_by f (set xs k y) < sum_by f xs + m
 sum_by-set_by f xs k x y m lt at less =
     let sums = sum_by-set f xs k y x lt in
-    let here : f (get_or xs k x) ≡ f x = ap f (slice_get-get_or xs k x x at) in
+    let here : f (get_or xs k x) ≡ f x = ap f (get_or_from_slice_get xs k x x at) in
     omega (arith, sums, here, less)
 
 pub sum_by-set_same : {A : Type 0} (f : A → ℕ) (xs : List A) (k : ℕ) (x y : A) → k < length xs → slice_get xs k ≡ Some x → f y ≡ f x
     → sum_by f (set xs k y) ≡ sum_by f xs
 sum_by-set_same f xs k x y lt at same =
     let sums = sum_by-set f xs k y x lt in
-    let here : f (get_or xs k x) ≡ f x = ap f (slice_get-get_or xs k x x at) in
+    let here : f (get_or xs k x) ≡ f x = ap f (get_or_from_slice_get xs k x x at) in
     omega (arith, sums, here, same)
 
 pub within : {A : Type 0} (xs : List A) (k : ℕ) (x : A) → slice_get xs k ≡ Some x → k < length xs
@@ -69,8 +65,3 @@ pub all_at : {A : Type 0} (P : A → Type 0) (xs : List A) (k : ℕ) (x : A) →
 all_at P [] k x h e = cc
 all_at P (y ∷ ys) zero x h e = let same : y ≡ x = cc in subst P same (All-head P y ys h)
 all_at P (y ∷ ys) (suc k) x h e = all_at P ys k x (All-tail P y ys h) e
-
-pub past_none : {A : Type 0} (xs : List A) (k : ℕ) → length xs ≤ k → slice_get xs k ≡ None
-past_none [] k le = refl
-past_none (x ∷ xs) zero le = absurd (omega (arith, le))
-past_none (x ∷ xs) (suc k) le = past_none xs k (omega (arith, le))

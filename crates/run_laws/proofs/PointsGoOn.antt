@@ -6,12 +6,11 @@ use mathlib.Core.List.{IsPrefix}
 use Rattle.co_base.specs.Orders.{Side}
 use Rattle.co_base.proofs.Orders.{order_same, order_then}
 use Rattle.channel_model.specs.declared.acts.Entry.{Entry}
-use Rattle.channel_model.specs.Channels.{Shape, State}
+use Rattle.channel_model.specs.Channels.{Shape}
 use Rattle.channel_model.specs.Histories.{replay, acts_of}
 use Rattle.channel_model.specs.Floors.{Floor as ChannelFloor, Looked as LookedAtChannels}
 use Rattle.channel_model.proofs.Spans as spans
 use Rattle.job_model.specs.declared.acts.JobEntry.{JobEntry}
-use Rattle.job_model.specs.Trees.{Tree}
 use Rattle.job_model.specs.Histories.{replay as replay_jobs, acts_of as job_acts_of}
 use Rattle.job_model.specs.Floors.{Floor}
 use Rattle.note_book.specs.declared.book.Item.{Item}
@@ -19,7 +18,6 @@ use Rattle.note_book.specs.declared.book.Item.TheVariants as item
 use Rattle.note_book.specs.Items.{channel_acts_in, job_acts_in}
 use Rattle.note_book.proofs.Appended.{channel_acts_in-append}
 use Rattle.call_meaning.specs.Telling.{Told, note, on_channels, on_jobs, items_in}
-use Rattle.call_meaning.specs.Facts.{ToldHolds}
 use Rattle.call_meaning.specs.JobCalls.{NotAttached}
 use Rattle.call_meaning.specs.Stories.{Moment, IsBy, IsTrue, with_told, story_of}
 use Rattle.call_meaning.specs.Orders.{IsAt, HasTold, IsTrueAlong, WasSoAlong}
@@ -34,6 +32,7 @@ use Rattle.script_meaning.proofs.BooksGoOn.{items_in-append, reaches_turned}
 use Rattle.run_laws.specs.Orders.{RunsAlong, StandsAlong}
 use Rattle.run_laws.proofs.AlongLater.{runs_along_after}
 use Rattle.run_laws.proofs.PolledAlong.{fresh_along}
+use Rattle.call_meaning.proofs.PointsOfMoments.{whatever_channels}
 
 -- ---- before the first poll
 
@@ -72,22 +71,15 @@ begins_of_jobs : (p : Program) (k : ℕ) (told : List Told) (x : Config) → Beg
 begins_of_jobs p _ _ _ (Begins.root group x h) = spawns_of_jobs p _ _ x group h
 begins_of_jobs p _ _ _ (Begins.child k n) = tt
 
--- what is told of Jobs holds whatever is of the channels
-of_jobs_holds : (shape : Shape) (x : Told) (s s' : State) (tree : Tree) → IsOfJobs x → ToldHolds shape x s tree → ToldHolds shape x s' tree
-of_jobs_holds shape (note (item.Channel n)) s s' tree of h = absurd of
-of_jobs_holds shape (note (item.Job n)) s s' tree of h = h
-of_jobs_holds shape (on_channels fact) s s' tree of h = absurd of
-of_jobs_holds shape (on_jobs fact) s s' tree of h = h
-
 -- and adds no act on channels
 no_call_more : (items : List Item) (x : Told) → IsOfJobs x → channel_acts_in (with_told x items) ≡ channel_acts_in items
 no_call_more items (note (item.Channel n)) of = absurd of
 no_call_more items (note (item.Job n)) of = channel_acts_in-append items (item.Job n ∷ []) ∙ append-nil (channel_acts_in items)
-no_call_more items (on_channels fact) of = refl
-no_call_more items (on_jobs fact) of = refl
+no_call_more items other of = refl
 
 -- so it was so beside any channels on which who did just what it noted
-of_jobs_beside : (shape : Shape) (who : ℕ) (es : List Entry) (jobs : List JobEntry) (items : List Item) (earlier : Moment) (told : List Told)
+of_jobs_beside : (shape : Shape) (who : ℕ) (es : List Entry) (jobs : List JobEntry) (items : List Item) (earlier : Moment)
+    (told : List Told)
     → AreAll IsOfJobs told → acts_of who es ≡ channel_acts_in items
     → IsTrue (story_of shape who (record { channels = []; jobs = jobs })) items earlier told
     → IsTrue (story_of shape who (record { channels = es; jobs = jobs })) items (record { channels = es; jobs = earlier.jobs }) told
@@ -100,7 +92,7 @@ of_jobs_beside shape who es jobs items earlier (x ∷ told) (of, all) mine (at, 
     not_after = record { channels = ([], append-nil es); jobs = so.not_after.jobs };
     channel_acts = mine;
     job_acts = so.job_acts;
-    holds = of_jobs_holds shape x (replay at.channels) (replay es) (replay_jobs at.jobs) of so.holds;
+    holds = whatever_channels shape x (replay at.channels) (replay es) (replay_jobs at.jobs) of so.holds;
   },
   of_jobs_beside shape who es jobs (with_told x items) at told all (mine ∙ sym (no_call_more items x of)) rest,
 )

@@ -3,7 +3,7 @@
 use Rattle.std.specs.Prelude.{◌≡◌, ℕ, zero, suc, ◌+◌, ◌<◌, ◌≤◌, ◌⊎◌, Bool, true, false, List, [], ◌++◌, Some, is_some, refl}
 use Rattle.std.specs.List.{list_any}
 use Rattle.std.proofs.Common.{sym, ap, ◌∙◌, subst, ⊎_elim, arith}
-use Rattle.std.proofs.lemmas.Bool.{eq-eqb, or_from}
+use Rattle.std.proofs.lemmas.Bool.{eq-eqb, or_from, or_cases, false_from_ne_true, false≢true}
 use Rattle.std.proofs.lemmas.List.{append-nil}
 use Rattle.std.proofs.lemmas.List.Folds.{list_any-append}
 use Rattle.channel_model.specs.Histories.{Legal as LegalCalls}
@@ -32,7 +32,7 @@ use Rattle.script_meaning.proofs.TagsReached.{BeginGives, ReachGives, runs_give,
 use Rattle.script_laws.specs.Counts.{one, count_from}
 use Rattle.script_laws.specs.Owners.{AreClaimed, AllNoted, scopes_claimed}
 use Rattle.script_laws.proofs.RowsEntered.{sum_less, counts_all, scopes_at, scopes_of_all_tags}
-use Rattle.script_laws.proofs.ClaimsAttached.{or_either, some_is, claimed_below, claims_few, claims_fit, all_refusals}
+use Rattle.script_laws.proofs.ClaimsAttached.{some_is, claimed_below, claims_few, claims_fit, all_refusals}
 use Rattle.script_laws.proofs.NotSpent.{stands_unspent}
 use Rattle.run_laws.specs.Refusals.{NoRowLeft, RowTaken, RefusedSo}
 
@@ -129,7 +129,7 @@ polled_refused p c c' j j' f g ok legal on on' h was = record {
 }
   where
     parts : (test : Item → Bool) → list_any test g.book ≡ true → (list_any test f.book ≡ true) ⊎ (list_any test (items_in h.told) ≡ true)
-    parts test e = or_either (list_any test f.book) (list_any test (items_in h.told))
+    parts test e = or_cases (list_any test f.book) (list_any test (items_in h.told))
         (sym (ap (list_any test) h.appended ∙ list_any-append test f.book (items_in h.told)) ∙ e)
 
     now : Moment
@@ -181,7 +181,7 @@ polled_refused p c c' j j' f g ok legal on on' h was = record {
 pub begun_refused : (p : Program) (c : ChannelFloor) (j j' : Floor) (f g : Frame) → IsProgram p → Legal (job_shape p) j'.seen
     → StandsOn p c j' g → (h : Begun p j j' f g) → RefusedSo p j' g
 begun_refused p c j j' f g ok legal on h = record {
-  no_row = λ e. never (sym (ap (list_any is_no_row) h.written ∙ begins.no_row) ∙ e);
+  no_row = λ e. absurd (false≢true (sym (ap (list_any is_no_row) h.written ∙ begins.no_row) ∙ e));
   used = λ e. let u : list_any is_used (items_in h.told) ≡ true = sym (ap (list_any is_used) h.written) ∙ e
       in taken_now p c j' g ok legal on (subst (λ k. LaunchesAt p k g.config.free) (sym h.tag) (begins.used u)) (h.refused.used u);
   none_ended = ap (list_any is_parent_ended) h.written ∙ h.refused.none_ended;
@@ -189,9 +189,6 @@ begun_refused p c j j' f g ok legal on h = record {
   where
     begins : BeginGives p f.tag (completed_in j'.seen) h.told g.config
     begins = begins_give p f.tag (completed_in j'.seen) h.told g.config ok h.begins
-
-    never : {A : Type 0} → false ≡ true → A
-    never e = absurd (let no_way : ⊥ = cc in no_way)
 
 -- ---- the end
 
@@ -222,16 +219,12 @@ row_is_free p c j k ok legal lt claimed h =
     (λ by_g. h.apart (sym by.2 ∙ sym (launched_once p k by.0.tag h.row ok lt by.1.in_run h.launches by_g.0)))
     (claimed_below p c j by.0 h.row ok legal by.1 theirs low)
 
-unless : (b : Bool) → (b ≡ true → ⊥) → b ≡ false
-unless true n = absurd (n refl)
-unless false n = refl
-
 -- where all stand on the same floors, no book has a refusal
 pub never_refused : (p : Program) (c : ChannelFloor) (j : Floor) (f : Frame) → IsProgram p → LegalCalls (floor_shape p) c.seen
     → Legal (job_shape p) j.seen → StandsOn p c j f → AreClaimed p c j → AllNoted p c j → RefusedSo p j f
     → list_any (is_refusal (base_of p)) f.book ≡ false
 never_refused p c j f ok legal_calls legal on claimed noted h =
     all_refusals (base_of p) f.book (stands_unspent p c j f ok legal_calls legal on noted)
-    (unless (list_any is_no_row f.book) (λ e. row_is_left p c j f.tag ok legal on.in_run claimed (h.no_row e)))
-    (unless (list_any is_used f.book) (λ e. row_is_free p c j f.tag ok legal on.in_run claimed (h.used e)))
+    (false_from_ne_true (list_any is_no_row f.book) (λ e. row_is_left p c j f.tag ok legal on.in_run claimed (h.no_row e)))
+    (false_from_ne_true (list_any is_used f.book) (λ e. row_is_free p c j f.tag ok legal on.in_run claimed (h.used e)))
     h.none_ended

@@ -2,10 +2,11 @@
 use Rattle.std.specs.Prelude.{◌≡◌, ℕ, zero, suc, ◌+◌, ◌<◌, ◌≤◌, nat_lt, ◌==◌, ◌⊎◌, Bool, true, false, List, [], ◌∷◌, length, map, Option, Some, None, slice_get, refl}
 use Rattle.std.specs.List.{All, list_any}
 use Rattle.std.proofs.Common.{sym, ap, ◌∙◌, subst, inl, inr, arith}
-use Rattle.std.proofs.lemmas.Bool.{eqb-true, eq-eqb}
+use Rattle.std.proofs.lemmas.Bool.{eqb-true, eq-eqb, ltb-true, ltb-false}
 use Rattle.std.proofs.lemmas.Bool.Decides.{nat_tests}
 use Rattle.std.proofs.lemmas.List.{length-map}
 use mathlib.Core.List.{IsPrefix}
+use Rattle.std.proofs.lemmas.Option.{slice_get_past, same_Some}
 use Rattle.channel_model.specs.Histories.{replay, acts_of, Legal}
 use Rattle.channel_model.specs.Floors.{Floor as ChannelFloor}
 use Rattle.job_model.specs.declared.acts.End.{End}
@@ -40,26 +41,17 @@ use Rattle.run_laws.proofs.RefusalsTold.{refused_later, never_refused}
 use Rattle.run_laws.proofs.ClosedAtOnce.{closes_always}
 use Rattle.run_laws.proofs.CannotGoOn.{cannot_go_on}
 use Rattle.run_laws.proofs.Prefixes.{prefix_then, between_same}
-use Rattle.run_laws.proofs.Places.{all_at, some_at, past_none}
+use Rattle.run_laws.proofs.Places.{all_at, some_at}
 use Rattle.run_laws.proofs.Lists.{some_coroutine}
 
 -- ---- places in lists
 
-same_some : {A : Type 0} (x y : A) → Some x ≡ Some y → x ≡ y
-same_some x y e = cc
-
 tag_at : (n : ℕ) (sights : List Sight) (k : ℕ) (s : Sight) → CountUp n (map (λ s. s.frame.tag) sights) → slice_get sights k ≡ Some s
     → s.frame.tag ≡ n + k
 tag_at n [] k s h e = cc
-tag_at n (x ∷ xs) zero s h e = let same : x ≡ s = same_some x s e in ap (λ (y : Sight). y.frame.tag) (sym same) ∙ h.0
+tag_at n (x ∷ xs) zero s h e = let same : x ≡ s = same_Some x s e in ap (λ (y : Sight). y.frame.tag) (sym same) ∙ h.0
     ∙ (let z : n ≡ n + 0 = omega arith in z)
 tag_at n (x ∷ xs) (suc k) s h e = tag_at (suc n) xs k s h.1 e ∙ (let z : suc n + k ≡ n + suc k = omega arith in z)
-
-below_if : (k n : ℕ) → nat_lt k n ≡ true → k < n
-below_if k n e = grind (arith, nat_tests)
-
-past_if : (k n : ℕ) → nat_lt k n ≡ false → n ≤ k
-past_if k n e = grind (arith, nat_tests)
 
 -- ---- books
 
@@ -137,9 +129,9 @@ module _ (p : Program) (first : Sight) (sights : List Sight) (c : ChannelFloor) 
   within_count k s e = by_test (nat_lt k (coroutine_count p)) refl
     where
       by_test : (b : Bool) → nat_lt k (coroutine_count p) ≡ b → k < coroutine_count p
-      by_test true f = below_if k (coroutine_count p) f
-      by_test false f = absurd (let le = past_if k (coroutine_count p) f in let count = h.count
-          in let none = past_none sights k (omega (arith, le, count)) in let q : Some s ≡ None = sym e ∙ none in cc)
+      by_test true f = ltb-true k (coroutine_count p) f
+      by_test false f = absurd (let le = ltb-false k (coroutine_count p) f in let count = h.count
+          in let none = slice_get_past sights k (omega (arith, le, count)) in let q : Some s ≡ None = sym e ∙ none in cc)
 
   -- ---- one history
 
@@ -170,9 +162,9 @@ module _ (p : Program) (first : Sight) (sights : List Sight) (c : ChannelFloor) 
           (subst (λ n. acts_of n c.seen ≡ acts_of n known.past.channels.seen) (tag_of k s e) all)
 
       by_test : (b : Bool) → nat_lt k (coroutine_count p) ≡ b → acts_of k c.seen ≡ acts_of k first.channels.seen
-      by_test true f = let x = the_sight k (below_if k (coroutine_count p) f) in own x.0 x.1
+      by_test true f = let x = the_sight k (ltb-true k (coroutine_count p) f) in own x.0 x.1
       by_test false f = calls_between k [] first.channels.seen c.seen (first.channels.seen, refl) first_calls
-          (h.others.calls k (past_if k (coroutine_count p) f) ∙ none)
+          (h.others.calls k (ltb-false k (coroutine_count p) f) ∙ none)
         where
           none : [] ≡ acts_of k []
           none = refl
@@ -190,9 +182,9 @@ module _ (p : Program) (first : Sight) (sights : List Sight) (c : ChannelFloor) 
           (subst (λ n. job_acts_of n j.seen ≡ job_acts_of n known.past.jobs.seen) (tag_of k s e) all)
 
       by_test : (b : Bool) → nat_lt k (coroutine_count p) ≡ b → job_acts_of k j.seen ≡ job_acts_of k first.jobs.seen
-      by_test true f = let x = the_sight k (below_if k (coroutine_count p) f) in own x.0 x.1
+      by_test true f = let x = the_sight k (ltb-true k (coroutine_count p) f) in own x.0 x.1
       by_test false f = jobs_between k [] first.jobs.seen j.seen (first.jobs.seen, refl) first_jobs
-          (h.others.jobs k (past_if k (coroutine_count p) f) ∙ none)
+          (h.others.jobs k (ltb-false k (coroutine_count p) f) ∙ none)
         where
           none : [] ≡ job_acts_of k []
           none = refl
@@ -229,8 +221,8 @@ module _ (p : Program) (first : Sight) (sights : List Sight) (c : ChannelFloor) 
       past k e = by_test (nat_lt k (coroutine_count p)) refl
         where
           by_test : (b : Bool) → nat_lt k (coroutine_count p) ≡ b → coroutine_count p ≤ k
-          by_test true f = absurd (let x = the_sight k (below_if k (coroutine_count p) f) in let q : Some x.0 ≡ None = sym x.1 ∙ e in cc)
-          by_test false f = past_if k (coroutine_count p) f
+          by_test true f = absurd (let x = the_sight k (ltb-true k (coroutine_count p) f) in let q : Some x.0 ≡ None = sym x.1 ∙ e in cc)
+          by_test false f = ltb-false k (coroutine_count p) f
   calls_in k (Some s) e =
       let on = stands_there p c j s (brought_at k s e) in
       ap (λ n. acts_of n c.seen) (sym (tag_of k s e)) ∙ on.channel_acts ∙ ap channel_acts_in (sym (book k (Some s) e))
@@ -242,8 +234,8 @@ module _ (p : Program) (first : Sight) (sights : List Sight) (c : ChannelFloor) 
       past k e = by_test (nat_lt k (coroutine_count p)) refl
         where
           by_test : (b : Bool) → nat_lt k (coroutine_count p) ≡ b → coroutine_count p ≤ k
-          by_test true f = absurd (let x = the_sight k (below_if k (coroutine_count p) f) in let q : Some x.0 ≡ None = sym x.1 ∙ e in cc)
-          by_test false f = past_if k (coroutine_count p) f
+          by_test true f = absurd (let x = the_sight k (ltb-true k (coroutine_count p) f) in let q : Some x.0 ≡ None = sym x.1 ∙ e in cc)
+          by_test false f = ltb-false k (coroutine_count p) f
   job_calls_in k (Some s) e =
       let on = stands_there p c j s (brought_at k s e) in
       ap (λ n. job_acts_of n j.seen) (sym (tag_of k s e)) ∙ on.job_acts ∙ ap job_acts_in (sym (book k (Some s) e))
@@ -282,7 +274,7 @@ module _ (p : Program) (first : Sight) (sights : List Sight) (c : ChannelFloor) 
           by_row : (b : Bool) → (r == 0) ≡ b → ⊥
           by_row true f =
               let root : Some t ≡ Some 0 = sym e ∙ ap j.claims (eqb-true r 0 f) ∙ h.root_claimed in
-              let zero_tag : t ≡ 0 = same_some t 0 root in
+              let zero_tag : t ≡ 0 = same_Some t 0 root in
               let some = some_coroutine p h.ok in
               omega (arith, le, zero_tag, some)
           by_row false f =
@@ -295,8 +287,8 @@ module _ (p : Program) (first : Sight) (sights : List Sight) (c : ChannelFloor) 
               row_zero q f = grind (arith, nat_tests)
 
       by_test : (b : Bool) → nat_lt t (coroutine_count p) ≡ b → (g : Meant) × StandsOn p c j g × (g.tag ≡ t)
-      by_test true f = let x = the_sight t (below_if t (coroutine_count p) f) in here x.0 x.1
-      by_test false f = absurd (never (past_if t (coroutine_count p) f))
+      by_test true f = let x = the_sight t (ltb-true t (coroutine_count p) f) in here x.0 x.1
+      by_test false f = absurd (never (ltb-false t (coroutine_count p) f))
 
   noted : AllNoted p c j
   noted t = by_test (nat_lt t (coroutine_count p)) refl
@@ -305,8 +297,8 @@ module _ (p : Program) (first : Sight) (sights : List Sight) (c : ChannelFloor) 
       here s f = (s.frame, stands_there p c j s (brought_at t s f), tag_of t s f)
 
       by_test : (b : Bool) → nat_lt t (coroutine_count p) ≡ b → (acts_of t c.seen ≡ []) ⊎ ((g : Meant) × StandsOn p c j g × (g.tag ≡ t))
-      by_test true f = let x = the_sight t (below_if t (coroutine_count p) f) in inr (here x.0 x.1)
-      by_test false f = inl (h.others.calls t (past_if t (coroutine_count p) f))
+      by_test true f = let x = the_sight t (ltb-true t (coroutine_count p) f) in inr (here x.0 x.1)
+      by_test false f = inl (h.others.calls t (ltb-false t (coroutine_count p) f))
 
   unrefused : (k : ℕ) → (o : Option Sight) → slice_get sights k ≡ o
       → list_any (is_refusal (base_of p)) (book_at k (books_in sights)) ≡ false

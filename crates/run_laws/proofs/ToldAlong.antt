@@ -20,15 +20,9 @@ use Rattle.call_meaning.specs.Facts.{ToldHolds}
 use Rattle.call_meaning.specs.Stories.{Moment, IsBy, IsTrue, story_of}
 use Rattle.co_base.specs.Orders.{Side, channel_entries_in, job_entries_in}
 use Rattle.call_meaning.specs.Orders.{IsOrderOf, IsSoAlong, IsTrueAlong}
-use Rattle.run_laws.proofs.Prefixes.{prefix_then}
 use Rattle.call_meaning.proofs.OrderCounts.{channel_entries_in-append, job_entries_in-append, sides_of, sides_of-append, channel_entries_in-sides_of, job_entries_in-sides_of}
 use Rattle.run_laws.proofs.OwnMoments.{known_by, calls_are_all, jobs_are_all}
-
-by_then : (a b c : Moment) → IsBy a b → IsBy b c → IsBy a c
-by_then a b c p q = record {
-  channels = prefix_then a.channels b.channels c.channels p.channels q.channels;
-  jobs = prefix_then a.jobs b.jobs c.jobs p.jobs q.jobs;
-}
+use Rattle.call_meaning.proofs.Tellings.{by_then}
 
 -- k, whose book this was, added these acts to both histories, and nobody else added any
 module _ (shape : Shape) (k : ℕ) (old now : Moment) (order : List Side) (book : List Item) (acts : List Act) (job_acts : List JobAct)

@@ -4,7 +4,7 @@ use Rattle.std.proofs.Math.Bool.{or-false, or_assoc}
 use Rattle.std.proofs.lemmas.Bool.Decides.{eqb_tells, nat_tests}
 use Rattle.channel_model.specs.declared.acts.Act.{Act}
 use Rattle.channel_model.specs.declared.acts.ChannelNote.TheVariants as note
-use Rattle.channel_model.specs.declared.acts.Act.TheVariants.{Hand, Put, Offer, Await, Take, Admit, Drop, Spurn, Close, Void, Drain, WakeClosed, Withdraw, Settle}
+use Rattle.channel_model.specs.declared.acts.Act.TheVariants.{Hand, Put, Offer, Await, Take, Admit, Drop, Spurn, Drain, Withdraw, Settle}
 use Rattle.co_base.specs.declared.names.WaitId.{WaitId}
 use Rattle.channel_model.specs.Channels.{same_wait}
 use Rattle.channel_model.specs.Fates.{is_at, or_else, is_value, is_undelivered}
@@ -126,10 +126,7 @@ facts_of-cons c p (Take d q v) acts = take_told (is_at c p d q) (facts_of c p ac
 facts_of-cons c p (Admit d q) acts = admit_told (is_at c p d q) (facts_of c p acts)
 facts_of-cons c p (Drop d q v) acts = drop_told (is_at c p d q) (facts_of c p acts)
 facts_of-cons c p (Spurn d q v) acts = spurn_told (is_at c p d q) (facts_of c p acts)
-facts_of-cons c p (Close d v) acts = refl
-facts_of-cons c p (Void d) acts = refl
 facts_of-cons c p (Drain d q v) acts = drain_told (is_at c p d q) (facts_of c p acts)
-facts_of-cons c p (WakeClosed d q) acts = refl
 facts_of-cons c p (Withdraw w why) acts =
     withdraw_told (is_at c p w.channel w.place) (facts_of c p acts)
     ∙ ap (λ b. record (facts_of c p acts) { withdrawn = b || (facts_of c p acts).withdrawn })
@@ -142,6 +139,7 @@ facts_of-cons c p (Settle w outcome) acts =
       gave_up = (b && is_undelivered outcome) || (facts_of c p acts).gave_up;
     })
     (is_at-wait (record { channel = c; place = p }) w)
+facts_of-cons c p other acts = refl
 
 -- ---- what is added at one place
 

@@ -2,6 +2,7 @@
 use Rattle.std.specs.Prelude.{◌≡◌, ℕ, true, false, List, [], ◌∷◌, ◌++◌, Option, Some, None, Result, Ok, Err, is_some, option_map, refl}
 use Rattle.std.specs.List.{list_all}
 use Rattle.std.proofs.Common.{sym, ap, ◌∙◌, subst, inr}
+use mathlib.Core.List.{append_assoc}
 use Rattle.co_base.specs.declared.names.Memory.{Memory}
 use Rattle.channel_model.proofs.Spans as spans
 use Rattle.job_model.specs.declared.acts.JobAct.{JobAct}
@@ -226,10 +227,6 @@ cancels_quiet base [] e = tt
 cancels_quiet base (item.Channel n ∷ items) e = (tt, cancels_quiet base items e)
 cancels_quiet base (item.Job n ∷ items) e = note_quiet base n items e (cancels_quiet base items)
 
-told_assoc : (xs ys zs : List Told) → (xs ++ ys) ++ zs ≡ xs ++ (ys ++ zs)
-told_assoc [] ys zs = refl
-told_assoc (x ∷ xs) ys zs = ap (λ (l : List Told). x ∷ l) (told_assoc xs ys zs)
-
 break_items : (cancels end : List Told) (row : ℕ) → items_in (cancels ++ on_jobs (IsCancelling row) ∷ []) ≡ items_in cancels
 unfolding items_in
 break_items cancels end row = items_in-append cancels (on_jobs (IsCancelling row) ∷ []) ∙ nothing_more (items_in cancels)
@@ -253,7 +250,7 @@ did_cancels m {base} l same h = record {
 }
 
 behind : (told more : List Told) (row : ℕ) → (told ++ on_jobs (IsCancelling row) ∷ []) ++ more ≡ told ++ on_jobs (IsCancelling row) ∷ more
-behind told more row = told_assoc told (on_jobs (IsCancelling row) ∷ []) more
+behind told more row = append_assoc told (on_jobs (IsCancelling row) ∷ []) more
 
 -- what came first, and what the end of the body told
 module _ {row : ℕ} {failure : Option ℕ} {a b c : SeenOnBoth} (l : Legal b.jobs.shape b.jobs.seen)

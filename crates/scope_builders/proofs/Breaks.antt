@@ -7,7 +7,7 @@ use Rattle.job_model.specs.declared.acts.JobState.TheVariants.{Cancelling}
 use Rattle.job_model.specs.declared.acts.Reason.{Reason}
 use Rattle.job_model.specs.declared.acts.Reason.TheVariants as reasons
 use Rattle.job_model.specs.declared.acts.JobAct.{JobAct}
-use Rattle.job_model.specs.declared.acts.JobAct.TheVariants.{Attach, Start, EndBody, Cancel, Finish, Gone}
+use Rattle.job_model.specs.declared.acts.JobAct.TheVariants.{EndBody}
 use Rattle.job_model.specs.Trees.{Job, Tree, is_cancellable, state_of}
 use Rattle.job_model.specs.Acts.{ends_body}
 use Rattle.job_model.specs.Needs.{OwnsBody, Holds}
@@ -38,12 +38,8 @@ use Rattle.scope_builders.specs.Parts.{AreCancels, BreakAnswer, IsBroken, HasBeg
 -- ---- Cancels end no body
 
 cancel_ends_none : (tree : Tree) (row r : ℕ) (act : JobAct) → IsCancelBelow tree row act → ends_body r act ≡ false
-cancel_ends_none tree row r (Attach p q kind tag cancelled) h = refl
-cancel_ends_none tree row r (Start q) h = refl
 cancel_ends_none tree row r (EndBody q v) h = absurd h
-cancel_ends_none tree row r (Cancel q reason) h = refl
-cancel_ends_none tree row r (Finish q end) h = refl
-cancel_ends_none tree row r (Gone q) h = refl
+cancel_ends_none tree row r other h = refl
 
 below_ends_none : (tree : Tree) (row r : ℕ) (acts : List JobAct) → AreCancelsBelow tree row acts → list_any (ends_body r) acts ≡ false
 below_ends_none tree row r [] h = refl

@@ -50,10 +50,6 @@ legal_before shape xs ys l p = Legal-prefix shape xs p.0 (subst (Legal shape) (s
 
 -- ---- what is told on both floors
 
-told_assoc : (xs ys zs : List Told) → (xs ++ ys) ++ zs ≡ xs ++ (ys ++ zs)
-told_assoc [] ys zs = refl
-told_assoc (x ∷ xs) ys zs = ap (λ (l : List Told). x ∷ l) (told_assoc xs ys zs)
-
 -- and then this was so of the Jobs, of which the channels had been told
 pub both_so : (fact : JobFact) {rows : List ℕ} {a b : SeenOnBoth} {told : List Told} → ToldIfJoint b.channels b.jobs
     → ToldOnBoth rows a b told
@@ -196,8 +192,8 @@ up_root {base} {row} {a} {b} z h = record {
 
 joined : (fin gone par : Told) (closes more : List Told) → ((fin ∷ (closes ++ gone ∷ [])) ++ par ∷ [])
     ++ more ≡ fin ∷ (closes ++ gone ∷ par ∷ more)
-joined fin gone par closes more = ap (λ (l : List Told). fin ∷ l) (told_assoc (closes ++ gone ∷ []) (par ∷ []) more
-    ∙ told_assoc closes (gone ∷ []) (par ∷ more))
+joined fin gone par closes more = ap (λ (l : List Told). fin ∷ l) (append_assoc (closes ++ gone ∷ []) (par ∷ []) more
+    ∙ append_assoc closes (gone ∷ []) (par ∷ more))
 
 chain_on : (base row p : ℕ) (end : End) (closes more : List Told) (r : Result (Unit {0}) Memory) → row ≢ 0
     → Closes (done_channel base row) (value_of end) closes → ChainAnswer base p more r
@@ -205,7 +201,7 @@ chain_on : (base row p : ℕ) (end : End) (closes more : List Told) (r : Result 
 chain_on base row p end closes more (Err m) z g h = record {
   rest = h.rest;
   all = Chain.goes_up row p end closes (more ++ h.rest) _ z g h.all
-      (ap (λ (l : List Told). did (Finish row end) ∷ l) (told_assoc closes (did (Gone row) ∷ on_jobs (ParentIs row p) ∷ more) h.rest));
+      (ap (λ (l : List Told). did (Finish row end) ∷ l) (append_assoc closes (did (Gone row) ∷ on_jobs (ParentIs row p) ∷ more) h.rest));
 }
 chain_on base row p end closes more (Ok done) z g h = Chain.goes_up row p end closes more _ z g h refl
 

@@ -3,6 +3,7 @@ use Rattle.std.specs.Prelude.{◌≡◌, ℕ, ◌+◌, ◌==◌, ◌<◌, Bool, 
 use Rattle.std.specs.List.{list_any}
 use Rattle.std.proofs.Common.{sym, ap, ◌∙◌, subst, arith}
 use Rattle.std.proofs.lemmas.Bool.Decides.{nat_tests}
+use Rattle.std.proofs.lemmas.Bool.{or_left}
 use Rattle.channel_model.specs.declared.acts.Act.{Act}
 use Rattle.channel_model.specs.declared.acts.Act.TheVariants.{Close, WakeClosed}
 use Rattle.channel_model.specs.declared.acts.ChannelNote.TheVariants as of_channel
@@ -80,10 +81,6 @@ close_cases P who c v _ xs ys (Closes.before u wakes w) e closed now before =
 
 shifted : (base row r : ℕ) → ((base + row) == (base + r)) ≡ (r == row)
 shifted base row r = grind (arith, nat_tests)
-
-or_left : (a b : Bool) → a ≡ true → (a || b) ≡ true
-or_left true b e = refl
-or_left false b e = cc
 
 or_first : (a b c : Bool) → b ≡ true → (a || (b || c)) ≡ true
 or_first true b c e = refl

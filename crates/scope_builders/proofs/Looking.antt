@@ -117,8 +117,7 @@ own_by who row a b m (Some j) p q e look begun lives = by_state j.state refl
     by_state Active k = runs Active k refl refl
     by_state Completing k = runs Completing k refl refl
     by_state Cancelling k = stops k
-    by_state Cancelled k = absurd (lives (ap is_ended k))
-    by_state Completed k = absurd (lives (ap is_ended k))
+    by_state other k = absurd (lives (ap is_ended k))
 
 pub own_answer : (who row : ℕ) (v : Option JobView) (a b : Floor) → Legal b.shape b.seen → MayEndBody who (replay a.seen row)
     → LookAnswer who row a b v → OwnAnswer who row a b (goes_on v)

@@ -3,7 +3,7 @@ use Rattle.std.proofs.Common.{◌≡◌, ℕ, zero, suc, ◌+◌, ◌*◌, ◌�
 use Rattle.std.proofs.lemmas.List.{append-nil}
 use Rattle.std.proofs.Math.Seq.{drop-append-add}
 use Rattle.script_grammar.specs.declared.instructions.Instruction.{Instruction}
-use Rattle.script_grammar.specs.declared.instructions.Instruction.TheVariants.{Send, TrySend, Receive, TryReceive, Close, CancelChannel, Yield, Launch, Start, Join, Await, Cancel, Fail, SetResult, Repeat, Each, Scope, Select, OnSend, OnReceive, End}
+use Rattle.script_grammar.specs.declared.instructions.Instruction.TheVariants.{Launch, Repeat, Each, Scope, Select, End}
 use Rattle.script_grammar.specs.Blocks.{without_end, product, launch_of, listed, opens_lines, is_end}
 use Rattle.script_grammar.specs.Nesting.{closing_from, closing_of, end_from, one_less}
 use Rattle.script_grammar.specs.Tags.{times_over, launched_from, launched, scopes_from}
@@ -60,27 +60,13 @@ Balanced-append _ ys _ bs m n (Balanced.select inner rest code cs _ b r e) h =
 
 line_launches : (outer : List (ℕ × List ℕ)) (blocks : List ℕ) (x : Instruction) (code : List Instruction) → opens_lines x ≡ false
     → is_end x ≡ false → launched_from outer blocks (x ∷ code) ≡ launched_from outer (blocks ++ listed (launch_of x)) code
-line_launches outer blocks (Send c v) code o e = ap (λ l. launched_from outer l code) (sym (append-nil blocks))
-line_launches outer blocks (TrySend c v) code o e = ap (λ l. launched_from outer l code) (sym (append-nil blocks))
-line_launches outer blocks (Receive c) code o e = ap (λ l. launched_from outer l code) (sym (append-nil blocks))
-line_launches outer blocks (TryReceive c) code o e = ap (λ l. launched_from outer l code) (sym (append-nil blocks))
-line_launches outer blocks (Close c) code o e = ap (λ l. launched_from outer l code) (sym (append-nil blocks))
-line_launches outer blocks (CancelChannel c) code o e = ap (λ l. launched_from outer l code) (sym (append-nil blocks))
-line_launches outer blocks Yield code o e = ap (λ l. launched_from outer l code) (sym (append-nil blocks))
 line_launches outer blocks (Launch p how job) code o e = refl
-line_launches outer blocks (Start j) code o e = ap (λ l. launched_from outer l code) (sym (append-nil blocks))
-line_launches outer blocks (Join j) code o e = ap (λ l. launched_from outer l code) (sym (append-nil blocks))
-line_launches outer blocks (Await j) code o e = ap (λ l. launched_from outer l code) (sym (append-nil blocks))
-line_launches outer blocks (Cancel j) code o e = ap (λ l. launched_from outer l code) (sym (append-nil blocks))
-line_launches outer blocks (Fail k) code o e = ap (λ l. launched_from outer l code) (sym (append-nil blocks))
-line_launches outer blocks (SetResult v) code o e = ap (λ l. launched_from outer l code) (sym (append-nil blocks))
 line_launches outer blocks (Repeat k) code o e = cc
 line_launches outer blocks (Each c) code o e = cc
 line_launches outer blocks (Scope supervisor) code o e = cc
 line_launches outer blocks Select code o e = cc
-line_launches outer blocks (OnSend c v) code o e = ap (λ l. launched_from outer l code) (sym (append-nil blocks))
-line_launches outer blocks (OnReceive c) code o e = ap (λ l. launched_from outer l code) (sym (append-nil blocks))
 line_launches outer blocks End code o e = cc
+line_launches outer blocks other code o e = ap (λ l. launched_from outer l code) (sym (append-nil blocks))
 
 pub times_over-none : (n : ℕ) → times_over n [] ≡ []
 times_over-none zero = refl
@@ -129,27 +115,12 @@ launched-Balanced xs js m b = ap launched (sym (append-nil xs)) ∙ launched_thr
 
 line_scopes : (nest : List ℕ) (x : Instruction) (code : List Instruction) → opens_lines x ≡ false → is_end x ≡ false
     → scopes_from nest (x ∷ code) ≡ scopes_from nest code
-line_scopes nest (Send c v) code o e = omega arith
-line_scopes nest (TrySend c v) code o e = omega arith
-line_scopes nest (Receive c) code o e = omega arith
-line_scopes nest (TryReceive c) code o e = omega arith
-line_scopes nest (Close c) code o e = omega arith
-line_scopes nest (CancelChannel c) code o e = omega arith
-line_scopes nest Yield code o e = omega arith
-line_scopes nest (Launch p how job) code o e = omega arith
-line_scopes nest (Start j) code o e = omega arith
-line_scopes nest (Join j) code o e = omega arith
-line_scopes nest (Await j) code o e = omega arith
-line_scopes nest (Cancel j) code o e = omega arith
-line_scopes nest (Fail k) code o e = omega arith
-line_scopes nest (SetResult v) code o e = omega arith
 line_scopes nest (Repeat k) code o e = cc
 line_scopes nest (Each c) code o e = cc
 line_scopes nest (Scope supervisor) code o e = cc
 line_scopes nest Select code o e = cc
-line_scopes nest (OnSend c v) code o e = omega arith
-line_scopes nest (OnReceive c) code o e = omega arith
 line_scopes nest End code o e = cc
+line_scopes nest other code o e = omega arith
 
 spread : (p t m n : ℕ) → t * p * m + p * n ≡ p * (t * m + n)
 spread p t m n = omega arith

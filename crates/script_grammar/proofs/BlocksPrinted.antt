@@ -17,6 +17,7 @@ use Rattle.script_grammar.specs.WellFormed.{name_given, few_clauses, is_within, 
 use Rattle.script_grammar.proofs.Truths.{both_true, lt-from_true, le-from_true, same-from_true}
 use Rattle.script_grammar.proofs.DistinctNames.{name_of-front, name_of-last}
 use Rattle.script_grammar.proofs.ChannelsPrinted.{SayAll-append, between}
+use Rattle.script_grammar.proofs.ProgramsBalanced.{weight_grows}
 
 -- ---- names
 
@@ -116,14 +117,6 @@ with_lines-code weights jobs b [] = sym (append-nil b.code)
 with_lines-code weights jobs b (x ∷ code) = with_lines-code weights jobs (with_line weights x (name_given jobs x) b) code
     ∙ append_assoc b.code (x ∷ []) code
 
-with_lines-weight : (weights : List ℕ) (jobs : List (List ℕ)) (b : Open) (code : List Instruction)
-    → b.weight ≤ (with_lines weights jobs b code).weight
-with_lines-weight weights jobs b [] = omega arith
-with_lines-weight weights jobs b (x ∷ code) =
-    let more = with_lines-weight weights jobs (with_line weights x (name_given jobs x) b) code in
-    let line : b.weight ≤ (with_line weights x (name_given jobs x) b).weight = omega arith in
-    omega (arith, more, line)
-
 main_weight-mono : (name : List ℕ) (v w : ℕ) → v ≤ w → main_weight name v ≤ main_weight name w
 main_weight-mono name v w h = by_test (is_main name)
   where
@@ -170,7 +163,7 @@ lines_said version channels done weights all jobs b (x ∷ code) few places bloc
     let more = both_true _ _ two.1 in
     let line = both_true _ _ two.0 in
     let fit = both_true _ _ line.1 in
-    let grown = main_weight-mono b.name next.weight (with_lines weights jobs next code).weight (with_lines-weight weights jobs next code) in
+    let grown = main_weight-mono b.name next.weight (with_lines weights jobs next code).weight (weight_grows weights jobs next code) in
     let rest = lines_said version channels done weights all jobs next code few places blocks
     (AreGiven-line b.jobs jobs (job_given x) given fit.1) light more.1 in (
       (
@@ -239,7 +232,7 @@ block_said : (version : ℕ) (channels : List Declared) (done : List Block) (wei
 block_said version channels done weights all b few places blocks same light fresh h =
     let open_ = opened b.name in
     let last = with_lines weights b.jobs open_ b.code in
-    let grown = main_weight-mono b.name 1 last.weight (with_lines-weight weights b.jobs open_ b.code) in
+    let grown = main_weight-mono b.name 1 last.weight (weight_grows weights b.jobs open_ b.code) in
     let lines = lines_said version channels done weights all b.jobs open_ b.code few places blocks
     (record { agree = λ i h. absurd (omega (arith, h)); few = omega arith }) light h in
     let end = closed_all b.jobs last lines.1 lines.2 in

@@ -1,11 +1,11 @@
 -- Lists of names, each of which is the first of its name.
 use Rattle.std.proofs.Common.{◌≡◌, ℕ, ◌+◌, ◌<◌, List, [], ◌∷◌, ◌++◌, refl, ap, sym, ◌∙◌, arith, Bool, true, false, Option, Some, None, length, if◌then◌else◌, length-append, ◌⊎◌, inl, inr}
-use Rattle.std.specs.Prelude.{◌||◌}
 use Rattle.std.specs.List.{list_any}
 use Rattle.std.specs.Str.{bytes_eq}
 use Rattle.std.proofs.lemmas.Slice.Eq.{bytes_eq-Decides}
 use Rattle.std.proofs.lemmas.List.{get_or_append_left}
 use Rattle.std.proofs.Math.Seq.{get_or-append_seam}
+use Rattle.std.proofs.lemmas.Bool.{or_parts}
 use Rattle.script_grammar.specs.Programs.{name_of}
 use Rattle.script_grammar.specs.Grammar.{is_name, is_fresh}
 use Rattle.script_grammar.specs.Places.{place_from}
@@ -16,15 +16,11 @@ use Rattle.script_grammar.proofs.Truths.{both_true, not_true}
 abbrev pub Distinct : List (List ℕ) → Type 0
 Distinct names = (i : ℕ) → i < length names → (is_name (name_of names i) ≡ true) × (place_from 0 (name_of names i) names ≡ Some i)
 
-either_false : (a b : Bool) → (a || b) ≡ false → (a ≡ false) × (b ≡ false)
-either_false true b e = cc
-either_false false b e = (refl, e)
-
 pub none_of : (i : ℕ) (name : List ℕ) (names : List (List ℕ)) → list_any (λ x. bytes_eq x name) names ≡ false
     → place_from i name names ≡ None
 none_of i name [] e = refl
 none_of i name (x ∷ names) e =
-    let two = either_false (bytes_eq x name) (list_any (λ y. bytes_eq y name) names) e in
+    let two = or_parts (bytes_eq x name) (list_any (λ y. bytes_eq y name) names) e in
     ap (λ b. if b then Some i else place_from (i + 1) name names) two.0 ∙ none_of (i + 1) name names two.1
 
 pub fresh_none : (names : List (List ℕ)) (name : List ℕ) → is_fresh names name ≡ true → (is_name name ≡ true)

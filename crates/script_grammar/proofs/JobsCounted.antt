@@ -6,6 +6,7 @@ use Rattle.std.specs.Str.{bytes_eq}
 use Rattle.std.proofs.lemmas.Slice.Eq.{bytes_eq-Decides}
 use Rattle.std.proofs.lemmas.List.{get_or_append_left, length-map}
 use Rattle.std.proofs.Math.Seq.{get_or-append_seam}
+use Rattle.std.proofs.lemmas.Bool.{both_ways, or_right}
 use lib.Chars.{codes}
 use Rattle.script_grammar.specs.declared.instructions.Instruction.{Instruction}
 use Rattle.script_grammar.specs.declared.instructions.Instruction.TheVariants.{Send, TrySend, Receive, TryReceive, Close, CancelChannel, Yield, Launch, Start}
@@ -242,14 +243,10 @@ only_main n before weights (b ∷ bs) some e (w ∷ ws) =
         either true t u f g = refl
         either false t u f g = g f
 
-    clash : (t : Bool) → t ≡ true → t ≡ false → ⊥
-    clash true f g = cc
-    clash false f g = cc
-
     by_test : (t : Bool) → is_main b.name ≡ t → list_any (λ x. bytes_eq x b.name) before ≡ false → closed_main bs ws ≡ 0
         → (if t then w else 0) + closed_main bs ws ≡ 0
-    by_test true f fresh rest = absurd (clash (list_any (λ x. bytes_eq x (codes "main")) before) some
-        (ap (λ y. list_any (λ x. bytes_eq x y) before) (sym (is_main-same b.name f)) ∙ fresh))
+    by_test true f fresh rest = absurd (both_ways (list_any (λ x. bytes_eq x (codes "main")) before)
+        (ap (λ y. list_any (λ x. bytes_eq x y) before) (sym (is_main-same b.name f)) ∙ fresh) some)
     by_test false f fresh rest = omega (arith, rest)
 
 main-weighs : (n i m : ℕ) (before : List (List ℕ)) (weights : List ℕ) (bs : List Block) (ws : List ℕ)
@@ -268,11 +265,7 @@ main-weighs n i m before weights (b ∷ bs) (w ∷ ws) e is l =
     some_main : (xs : List (List ℕ)) (name : List ℕ) → is_main name ≡ true
         → list_any (λ x. bytes_eq x (codes "main")) (xs ++ name ∷ []) ≡ true
     some_main [] name f = ap (λ t. t || false) f
-    some_main (x ∷ xs) name f = or_later (bytes_eq x (codes "main")) (some_main xs name f)
-      where
-        or_later : (s : Bool) {t : Bool} → t ≡ true → (s || t) ≡ true
-        or_later true g = refl
-        or_later false g = g
+    some_main (x ∷ xs) name f = or_right (bytes_eq x (codes "main")) _ (some_main xs name f)
 
     by_test : (t : Bool) → is_main b.name ≡ t → (if t then Some i else block_named (codes "main") (i + 1) bs) ≡ Some m
         → blocks_fit n (before ++ b.name ∷ []) (weights ++ weight_in weights b ∷ []) bs ≡ true

@@ -9,7 +9,7 @@ use Rattle.script_grammar.specs.Declarations.{launch_back, all_below}
 use Rattle.script_grammar.specs.Tags.{launched, launches_of, LaunchesAt, laid_out, layouts, code_of_block, tags_of, coroutine_count, block_of_tag, code_at, code_of, size_of, sizes_of, spawned}
 use Rattle.script_grammar.proofs.NamedIsDeclared.{Declares-from_program}
 use Rattle.script_grammar.proofs.Truths.{both_true, lt-from_true, le-from_lt_false}
-use Rattle.script_grammar.proofs.Layouts.{all_append, layout, layout-next, launched_back, laid_out-append, length-laid_out, size_some, layout-room, spawned_known, launched_known, main_block, tags_of-main, block_of_tag-some}
+use Rattle.script_grammar.proofs.Layouts.{all_append, layout, layout-next, launched_back, laid_out-append, length-laid_out, size_some, layout-room, spawned_known, launched_known, main_block, tags_of-main, block_of_tag-some, slice_get_append_left}
 
 -- ---- places of lists
 
@@ -44,9 +44,6 @@ get_some [] k h = absurd (omega (arith, h))
 get_some (x ∷ xs) zero h = (x, refl)
 get_some (x ∷ xs) (suc k) h = get_some xs k (omega (arith, h))
 
-get_on_left : (xs ys : List ℕ) (k v : ℕ) → slice_get xs k ≡ Some v → slice_get (xs ++ ys) k ≡ Some v
-get_on_left xs ys k v e = get_left xs ys k (get_within xs k v e) ∙ e
-
 -- ---- at each place of a layout stands the whole layout of its block
 
 Whole : List (List ℕ) → List ℕ → Type 0
@@ -56,7 +53,7 @@ Whole-append : (l : List (List ℕ)) (xs ys : List ℕ) → Whole l xs → Whole
 unfolding Whole
 Whole-append l xs ys first second k i d v at e =
     ⊎_elim
-    (λ left. get_on_left xs ys (k + d) v (first k i d v left e))
+    (λ left. slice_get_append_left xs ys (k + d) v (first k i d v left e))
     (λ right.
     let same : k - length xs + d ≡ k + d - length xs = omega (arith, right.0) in
     get_right xs ys (k + d) (omega (arith, right.0)) ∙ ap (slice_get ys) (sym same) ∙ second (k - length xs) i d v right.1 e)
@@ -159,7 +156,7 @@ sizes_take-next p [] n j e = cc
 sizes_take-next p (i ∷ js) zero j e = let same : i ≡ j = cc in omega (arith, ap (size_of p) same)
 sizes_take-next p (i ∷ js) (suc n) j e = let rest = sizes_take-next p js n j e in omega (arith, rest)
 
-sizes_take-all : (p : Program) (js : List ℕ) (n : ℕ) → sizes_of p (take n js) ≤ sizes_of p js
+pub sizes_take-all : (p : Program) (js : List ℕ) (n : ℕ) → sizes_of p (take n js) ≤ sizes_of p js
 sizes_take-all p js zero = omega arith
 sizes_take-all p [] (suc n) = omega arith
 sizes_take-all p (j ∷ js) (suc n) = let rest = sizes_take-all p js n in omega (arith, rest)

@@ -29,11 +29,6 @@ all_weaker p q weaker [] all = refl
 all_weaker p q weaker (x ∷ xs) all = let two = both_true (p x) (list_all p xs) all
     in both (q x) _ (weaker x two.0) (all_weaker p q weaker xs two.1)
 
-pub all_push : {X : Type 0} (test : X → Bool) (xs : List X) (x : X) → list_all test xs ≡ true → test x ≡ true
-    → list_all test (xs ++ x ∷ []) ≡ true
-all_push test [] x all h = both (test x) true h refl
-all_push test (y ∷ ys) x all h = let two = both_true (test y) (list_all test ys) all in both (test y) _ two.0 (all_push test ys x two.1 h)
-
 pub all_append : {X : Type 0} (test : X → Bool) (xs ys : List X) → list_all test xs ≡ true → list_all test ys ≡ true
     → list_all test (xs ++ ys) ≡ true
 all_append test [] ys all more = more
@@ -172,7 +167,7 @@ launched_back (b ∷ bs) from (suc j) back =
 pub Roomy : List (List ℕ) → ℕ → List ℕ → Type 0
 Roomy l n xs = (k : ℕ) → k < length xs → (i : ℕ) × (slice_get xs k ≡ Some i) × (i < n) × (k + length (layout l i) ≤ length xs)
 
-slice_get_append_left : (xs ys : List ℕ) (k i : ℕ) → slice_get xs k ≡ Some i → slice_get (xs ++ ys) k ≡ Some i
+pub slice_get_append_left : (xs ys : List ℕ) (k i : ℕ) → slice_get xs k ≡ Some i → slice_get (xs ++ ys) k ≡ Some i
 slice_get_append_left [] ys k i e = cc
 slice_get_append_left (x ∷ xs) ys zero i e = e
 slice_get_append_left (x ∷ xs) ys (suc k) i e = slice_get_append_left xs ys k i e
@@ -292,7 +287,7 @@ block_named-within name from (b ∷ bs) n e = by_test (bytes_eq b.name name) (λ
     by_test true more e = let same : from ≡ n = cc in omega (arith, same)
     by_test false more e = omega (arith, more e)
 
-some_block : (o : Option ℕ) → is_some o ≡ true → (i : ℕ) × (o ≡ Some i)
+pub some_block : (o : Option ℕ) → is_some o ≡ true → (i : ℕ) × (o ≡ Some i)
 some_block None e = cc
 some_block (Some i) e = (i, refl)
 

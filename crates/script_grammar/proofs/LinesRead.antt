@@ -1,8 +1,9 @@
 -- A line that is written as the grammar says is read as what it says.
-use Rattle.std.proofs.Common.{◌≡◌, ℕ, ◌<◌, ◌≤◌, ◌^◌, List, [], ◌∷◌, ◌++◌, refl, ap, sym, ◌∙◌, arith, Result, Ok, Err, true, false, Option, Some, None, length, get_or, if◌then◌else◌, nat_lt, subst}
+use Rattle.std.proofs.Common.{◌≡◌, ℕ, ◌<◌, ◌≤◌, ◌^◌, List, [], ◌∷◌, refl, ap, sym, ◌∙◌, arith, Result, Ok, Err, true, false, Option, Some, None, length, get_or, if◌then◌else◌, nat_lt, subst}
 use Rattle.std.specs.Prelude.{◌||◌, not}
 use Rattle.std.proofs.lemmas.List.{length-map}
 use Rattle.std.specs.Fmt.{decimal}
+use mathlib.Core.List.{append-nil}
 use lib.Chars.{codes}
 use Rattle.script_grammar.specs.declared.fault.FaultKind.{FaultKind}
 use Rattle.script_grammar.specs.declared.fault.FaultKind.TheVariants as kinds
@@ -10,7 +11,7 @@ use Rattle.script_grammar.specs.declared.instructions.Operand.{Operand}
 use Rattle.script_grammar.specs.declared.instructions.Launching.{Launching}
 use Rattle.script_grammar.specs.declared.instructions.Launching.TheVariants.{Plain, Async, Lazy}
 use Rattle.script_grammar.specs.declared.instructions.Instruction.{Instruction}
-use Rattle.script_grammar.specs.declared.instructions.Instruction.TheVariants.{Send, TrySend, Receive, TryReceive, Close, CancelChannel, Yield, Launch, Start, Join, Await, Cancel, Fail, SetResult, Repeat, Each, Scope, Select, OnSend, OnReceive, End}
+use Rattle.script_grammar.specs.declared.instructions.Instruction.TheVariants.{Send, TrySend, Receive, TryReceive, Close, CancelChannel, Launch, Start, Join, Await, Cancel, Fail, SetResult, Repeat, Each, Scope, OnSend, OnReceive, End}
 use Rattle.script_grammar.specs.Verbs.{verb_of}
 use Rattle.script_grammar.specs.Words.{has_items}
 use Rattle.script_grammar.specs.Faults.{◌>>=◌}
@@ -112,7 +113,6 @@ plain_again s b (TryReceive c) is none may h = named_again (channel_names s.chan
 plain_again s b (Close c) is none may h = named_again (channel_names s.channels) (λ c. Close c) c is.channels (declared s c h)
 plain_again s b (CancelChannel c) is none may h = named_again (channel_names s.channels) (λ c. CancelChannel c) c is.channels
     (declared s c h)
-plain_again s b Yield is none may h = refl
 plain_again s b (Launch p Plain None) is none may h = let two = both_true _ _ h
     in launch_again s b Plain p None [] is.blocks (lt-from_true p (length (block_names s.blocks)) two.0) (not_true _ two.1) refl
 plain_again s b (Launch p Async None) is none may h = let two = both_true _ _ h
@@ -132,7 +132,6 @@ plain_again s b (Repeat n) is none may h = let two = both_true _ _ h in let high
 plain_again s b (Each c) is none may h = named_again (channel_names s.channels) (λ c. Each c) c is.channels (declared s c h)
 plain_again s b (Scope false) is none may h = refl
 plain_again s b (Scope true) is none may h = refl
-plain_again s b Select is none may h = refl
 plain_again s b (OnSend c v) is none may h = cc
 plain_again s b (OnReceive c) is none may h = cc
 plain_again s b End is none may h = some b.nest may
@@ -140,6 +139,7 @@ plain_again s b End is none may h = some b.nest may
     some : (nest : List ℕ) → (has_items nest || not true) ≡ true → ending nest [] ≡ Ok (line_is End None)
     some [] e = cc
     some (n ∷ nest) e = refl
+plain_again s b other is none may h = refl
 
 in_select : (s : Read) (b : Open) (cs : List ℕ) (x : Instruction) → Named s b → stands (Some cs) b.nest x ≡ true
     → fits (length s.channels) (block_names s.blocks) b x ≡ true → words_form s b (Some cs) (old_words s b x) ≡ Ok (line_is x None)
@@ -187,10 +187,6 @@ launch_named s b p how name is fresh h =
     ∙ launch_again s b how p (Some name) (codes "as" ∷ name ∷ []) is.blocks (lt-from_true p (length (block_names s.blocks)) two.0)
     (not_true _ two.1) (job_again b.jobs name fresh)
 
-no_more : {A : Type 0} (xs : List A) → xs ++ [] ≡ xs
-no_more [] = refl
-no_more (x ∷ xs) = ap (λ l. x ∷ l) (no_more xs)
-
 unnamed : (s : Read) (b : Open) (x : Instruction) (o : Option (List ℕ)) → b.clauses ≡ o → Named s b → job_given x ≡ None
     → stands o b.nest x ≡ true → fits (length s.channels) (block_names s.blocks) b x ≡ true
     → words_form s b o (old_words s b x) ≡ Ok (line_is x None)
@@ -211,7 +207,7 @@ pub line_again : (s : Read) (b : Open) (x : Instruction) (job : Option (List ℕ
     → words_form s b b.clauses (line_words (names_for s b job) x) ≡ Ok (line_is x job)
 line_again s b x None is may h gives =
     ap (λ js. words_form s b b.clauses (line_words (record
-    { channels = channel_names s.channels; blocks = block_names s.blocks; jobs = js }) x)) (no_more b.jobs)
+    { channels = channel_names s.channels; blocks = block_names s.blocks; jobs = js }) x)) (append-nil b.jobs)
     ∙ unnamed s b x b.clauses refl is (none_given b.jobs (job_given x) gives) may h
 line_again s b x (Some name) is may h gives =
     let g = some_given b.jobs (job_given x) name gives in

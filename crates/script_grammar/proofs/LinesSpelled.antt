@@ -3,7 +3,9 @@ use Rattle.std.proofs.Common.{◌≡◌, ℕ, ◌<◌, ◌≤◌, ◌^◌, List,
 use Rattle.std.specs.Prelude.{◌==◌, ◌||◌, not}
 use Rattle.std.proofs.lemmas.List.{length-map, append-nil}
 use Rattle.std.specs.Fmt.{decimal}
+use Rattle.std.proofs.lemmas.Bool.{or_right}
 use lib.Chars.{codes}
+use Rattle.std.proofs.lemmas.Bool.{or_right}
 use Rattle.script_grammar.specs.declared.fault.FaultKind.TheVariants as kinds
 use Rattle.script_grammar.specs.declared.instructions.Operand.{Operand}
 use Rattle.script_grammar.specs.declared.instructions.Launching.{Launching}
@@ -173,11 +175,7 @@ says_old s b x word words first rest f open_ a c same may fit none is =
 outside_select : (o : Option (List ℕ)) (nest : List ℕ) (x : Instruction) → o ≡ None → is_clause x ≡ false → is_end x ≡ false
     → stands o nest x ≡ true
 outside_select None nest x e clause end = ap (λ c. not c && (has_items nest || not (is_end x))) clause
-    ∙ ap (λ c. has_items nest || not c) end ∙ either (has_items nest)
-  where
-    either : (a : Bool) → (a || true) ≡ true
-    either true = refl
-    either false = refl
+    ∙ ap (λ c. has_items nest || not c) end ∙ or_right (has_items nest) true refl
 outside_select (Some cs) nest x e clause end = cc
 
 launch_says : (s : Read) (b : Open) (how : Launching) (word : List ℕ) (words : List (List ℕ)) (i : ℕ) (job : Option (List ℕ)) (f : Form)
@@ -284,9 +282,8 @@ line_found s b verbs.Supervisor word ws f open_ out w ok = let r = plain_found (
 line_found s b verbs.Select word ws f open_ out w ok = let r = plain_found Select ws f ok
     in says_old s b Select word ws (codes "select") [] f open_ w r.0 refl (outside_select b.clauses b.nest Select out refl refl) refl refl
     r.1
-line_found s b verbs.OnSend word ws f open_ out w ok = cc
-line_found s b verbs.OnReceive word ws f open_ out w ok = cc
 line_found s b verbs.End word ws f open_ out w ok = ending_found s b b.nest word ws f open_ out refl w ok
+line_found s b other word ws f open_ out w ok = cc
 
 select_end_found : (s : Read) (b : Open) (cs : List ℕ) (t : Bool) (word : List ℕ) (ws : List (List ℕ)) (f : Form) → s.current ≡ Some b
     → b.clauses ≡ Some cs → has_items cs ≡ t → word ≡ codes "end" → (if t then plain_line End ws else Err kinds.UnknownWord) ≡ Ok f
@@ -298,27 +295,6 @@ select_end_found s b cs false word ws f open_ in_ has w ok = cc
 
 clause_line_found : (s : Read) (b : Open) (cs : List ℕ) (v : Verb) (word : List ℕ) (ws : List (List ℕ)) (f : Form) → s.current ≡ Some b
     → b.clauses ≡ Some cs → word ≡ word_of_verb v → clause_form s b cs v ws ≡ Ok f → Says s (word ∷ ws) f
-clause_line_found s b cs verbs.Send word ws f open_ in_ w ok = cc
-clause_line_found s b cs verbs.TrySend word ws f open_ in_ w ok = cc
-clause_line_found s b cs verbs.Receive word ws f open_ in_ w ok = cc
-clause_line_found s b cs verbs.TryReceive word ws f open_ in_ w ok = cc
-clause_line_found s b cs verbs.Close word ws f open_ in_ w ok = cc
-clause_line_found s b cs verbs.CancelChannel word ws f open_ in_ w ok = cc
-clause_line_found s b cs verbs.Yield word ws f open_ in_ w ok = cc
-clause_line_found s b cs verbs.Launch word ws f open_ in_ w ok = cc
-clause_line_found s b cs verbs.Async word ws f open_ in_ w ok = cc
-clause_line_found s b cs verbs.Lazy word ws f open_ in_ w ok = cc
-clause_line_found s b cs verbs.Start word ws f open_ in_ w ok = cc
-clause_line_found s b cs verbs.Join word ws f open_ in_ w ok = cc
-clause_line_found s b cs verbs.Await word ws f open_ in_ w ok = cc
-clause_line_found s b cs verbs.Cancel word ws f open_ in_ w ok = cc
-clause_line_found s b cs verbs.Fail word ws f open_ in_ w ok = cc
-clause_line_found s b cs verbs.Result word ws f open_ in_ w ok = cc
-clause_line_found s b cs verbs.Repeat word ws f open_ in_ w ok = cc
-clause_line_found s b cs verbs.Each word ws f open_ in_ w ok = cc
-clause_line_found s b cs verbs.Scope word ws f open_ in_ w ok = cc
-clause_line_found s b cs verbs.Supervisor word ws f open_ in_ w ok = cc
-clause_line_found s b cs verbs.Select word ws f open_ in_ w ok = cc
 clause_line_found s b cs verbs.OnSend word ws f open_ in_ w ok = let r = onsend_found s b ws f ok
     in says_old s b (OnSend r.0 r.1) word ws (codes "onsend") (name_of (channel_names s.channels) r.0 ∷ operand_word r.1 ∷ []) f open_ w r.2
     refl (ap (λ o. stands o b.nest (OnSend r.0 r.1)) in_)
@@ -327,6 +303,7 @@ clause_line_found s b cs verbs.OnReceive word ws f open_ in_ w ok = let r = onre
     in says_old s b (OnReceive r.0) word ws (codes "onreceive") (name_of (channel_names s.channels) r.0 ∷ []) f open_ w r.1 refl
     (ap (λ o. stands o b.nest (OnReceive r.0)) in_) (both (nat_lt r.0 (length s.channels)) _ (declared s r.0 r.2) r.3) refl r.4
 clause_line_found s b cs verbs.End word ws f open_ in_ w ok = select_end_found s b cs (has_items cs) word ws f open_ in_ refl w ok
+clause_line_found s b cs other word ws f open_ in_ w ok = cc
 
 pub verb_line_found : (s : Read) (b : Open) (clauses : Option (List ℕ)) (v : Option Verb) (word : List ℕ) (ws : List (List ℕ)) (f : Form)
     → s.current ≡ Some b → b.clauses ≡ clauses → verb_of word ≡ v → verb_form s b clauses v ws ≡ Ok f → Says s (word ∷ ws) f

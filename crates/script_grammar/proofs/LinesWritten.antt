@@ -6,6 +6,7 @@ use Rattle.std.proofs.lemmas.Bool.Decides.{nat_tests}
 use Rattle.std.proofs.lemmas.List.Splits.{slice_split_none, slice_split_at}
 use Rattle.std.proofs.lemmas.List.Elements.{All-cons}
 use Rattle.std.proofs.Math.Seq.{get_or-append_seam}
+use Rattle.std.proofs.lemmas.Bool.{not-true}
 use Rattle.script_grammar.specs.Words.{is_space, is_line_feed, is_plain, all_plain, has_items, begins_comment, before_comment, words_of, without_last_feed, lines_of, spaced, indented, unlines}
 use Rattle.script_grammar.specs.Grammar.{is_name, is_name_byte, is_lower}
 use Rattle.script_grammar.proofs.Truths.{both, both_true, le-from_true, le-true}
@@ -43,11 +44,7 @@ written_some (b ∷ w) e = refl
 
 written_word : (w : List ℕ) → is_written w ≡ true → begins_comment w ≡ false
 written_word [] e = refl
-written_word (b ∷ w) e = flip (b == 35) (both_true _ _ e).0
-  where
-    flip : (t : Bool) → not t ≡ true → t ≡ false
-    flip true f = cc
-    flip false f = refl
+written_word (b ∷ w) e = not-true (b == 35) (both_true _ _ e).0
 
 split_words : (w : List ℕ) (ws : List (List ℕ)) → list_all is_written (w ∷ ws) ≡ true → slice_split is_space (spaced (w ∷ ws)) ≡ w ∷ ws
 split_words w [] h = slice_split_none is_space w (no_spaces w (written_printed w (both_true _ _ h).0))

@@ -24,21 +24,10 @@ fits-channel n blocks b (Receive c) h = h
 fits-channel n blocks b (TryReceive c) h = h
 fits-channel n blocks b (Close c) h = h
 fits-channel n blocks b (CancelChannel c) h = h
-fits-channel n blocks b Yield h = refl
-fits-channel n blocks b (Launch p how job) h = refl
-fits-channel n blocks b (Start j) h = refl
-fits-channel n blocks b (Join j) h = refl
-fits-channel n blocks b (Await j) h = refl
-fits-channel n blocks b (Cancel j) h = refl
-fits-channel n blocks b (Fail k) h = refl
-fits-channel n blocks b (SetResult v) h = refl
-fits-channel n blocks b (Repeat k) h = refl
 fits-channel n blocks b (Each c) h = h
-fits-channel n blocks b (Scope supervisor) h = refl
-fits-channel n blocks b Select h = refl
 fits-channel n blocks b (OnSend c v) h = (both_true (nat_lt c n) _ h).0
 fits-channel n blocks b (OnReceive c) h = (both_true (nat_lt c n) _ h).0
-fits-channel n blocks b End h = refl
+fits-channel n blocks b other h = refl
 
 pub fits-job : (n : ℕ) (blocks : List (List ℕ)) (b : Open) (x : Instruction) → fits n blocks b x ≡ true
     → is_below (length b.jobs) (job_used x) ≡ true

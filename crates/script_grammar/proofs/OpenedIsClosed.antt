@@ -166,27 +166,8 @@ abbrev pub IsEndFrom : ℕ → List Instruction → ℕ → Type 0
 IsEndFrom from code k = (j : ℕ) × (k ≡ from + j) × (slice_get code j ≡ Some End)
 
 end_is : (x : Instruction) → is_end x ≡ true → x ≡ End
-end_is (Send c v) e = cc
-end_is (TrySend c v) e = cc
-end_is (Receive c) e = cc
-end_is (TryReceive c) e = cc
-end_is (Close c) e = cc
-end_is (CancelChannel c) e = cc
-end_is Yield e = cc
-end_is (Launch p how job) e = cc
-end_is (Start j) e = cc
-end_is (Join j) e = cc
-end_is (Await j) e = cc
-end_is (Cancel j) e = cc
-end_is (Fail k) e = cc
-end_is (SetResult v) e = cc
-end_is (Repeat k) e = cc
-end_is (Each c) e = cc
-end_is (Scope supervisor) e = cc
-end_is Select e = cc
-end_is (OnSend c v) e = cc
-end_is (OnReceive c) e = cc
 end_is End e = refl
+end_is other e = cc
 
 later_end : (from k : ℕ) (x : Instruction) (code : List Instruction) → IsEndFrom (from + 1) code k → IsEndFrom from (x ∷ code) k
 later_end from k x code e = (suc e.0, omega (arith, e.1), e.2)

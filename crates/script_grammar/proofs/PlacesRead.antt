@@ -12,7 +12,7 @@ use lib.Chars.{codes}
 use Rattle.script_grammar.specs.declared.fault.FaultKind.{FaultKind}
 use Rattle.script_grammar.specs.declared.fault.FaultKind.TheVariants.{UnknownWord, BadName, BadNumber, Recursive, Duplicate, Undeclared}
 use Rattle.channel_model.specs.declared.acts.Kind.{Kind}
-use Rattle.channel_model.specs.declared.acts.Kind.TheVariants.{Rendezvous, Buffered, Unlimited, Conflated, DropOldest, DropLatest, Signal}
+use Rattle.channel_model.specs.declared.acts.Kind.TheVariants.{Buffered, DropOldest, DropLatest, Signal}
 use Rattle.script_grammar.specs.declared.instructions.Operand.{Operand}
 use Rattle.script_grammar.specs.declared.instructions.Operand.TheVariants.{Number, It, Sum}
 use Rattle.script_grammar.specs.Faults.{◌>>=◌}
@@ -131,8 +131,6 @@ other_word w e number none = by_test (bytes_eq w e) refl
     by_test false t = refl
 
 pub operand_again : (v : Operand) (rest : List (List ℕ)) → is_operand v ≡ true → operand_at (operand_word v ∷ rest) ≡ Ok (v, rest)
-operand_again It rest h = refl
-operand_again Sum rest h = refl
 operand_again (Number v) rest e =
     let number = made {X = Operand} (λ n. Number n) (number_at 0 4294967295 (decimal v ∷ rest)) in
     let h = lt-from_true v (2 ^ 32) e in
@@ -143,6 +141,7 @@ operand_again (Number v) rest e =
     (other_word (decimal v) (codes "sum") (is_number-decimal v h) refl)
     ∙ ap (λ (r : Result (ℕ × List (List ℕ)) FaultKind). made {X = Operand} (λ n. Number n) r)
     (number_again 0 4294967295 v rest (omega arith) (omega (arith, h)) h)
+operand_again other rest h = refl
 
 -- ---- optional parts
 
@@ -180,7 +179,6 @@ pub kind_again : (version : ℕ) (kind : Kind) (full places : Bool) (word : List
     → has_capacity kind full ≡ true → kind_at version (kind_words kind full ++ part places (codes "places" ∷ word ∷ [])) ≡
     Ok (kind, part places (codes "places" ∷ word ∷ []))
 unfolding kind_at
-kind_again version Rendezvous full places word is has = refl
 kind_again version (Buffered k) false false word is has = ap (λ n. bounded n []) (sym (same-from_true k 64 has))
 kind_again version (Buffered k) false true word is has = ap (λ n. bounded n (codes "places" ∷ word ∷ [])) (sym (same-from_true k 64 has))
 kind_again version (Buffered k) true places word is has =
@@ -191,8 +189,6 @@ kind_again version (Buffered k) true places word is has =
     (made {X = Kind} (λ n. Buffered n) (number_at 1 65535 (decimal k ∷ rest))))
     (other_word (decimal k) (codes "places") (is_number-decimal k (omega (arith, high))) refl)
     ∙ capacity_again (λ n. Buffered n) k rest is
-kind_again version Unlimited full places word is has = refl
-kind_again version Conflated full places word is has = refl
 kind_again version (DropOldest k) full places word is has =
     capacity_again (λ n. DropOldest n) k (part places (codes "places" ∷ word ∷ [])) is
 kind_again version (DropLatest k) full places word is has =
@@ -202,3 +198,4 @@ kind_again version (DropLatest k) full places word is has =
     (made {X = Kind} (λ n. DropLatest n) (number_at 1 65535 (decimal k ∷ rest))) (Err UnknownWord)) two.0
     ∙ capacity_again (λ n. DropLatest n) k rest two.1
 kind_again version Signal full places word is has = cc
+kind_again version other full places word is has = refl

@@ -9,6 +9,7 @@ use Rattle.std.proofs.lemmas.Fmt.{decimal-digits_value}
 use Rattle.std.specs.Fmt.{decimal}
 use Rattle.std.specs.Str.{bytes_eq, all_ascii_digits}
 use Rattle.std.specs.Str.Parse.{digits_value}
+use Rattle.std.proofs.lemmas.Bool.{or_from, eqb-true}
 use Rattle.script_grammar.specs.declared.fault.FaultKind.{FaultKind}
 use Rattle.script_grammar.specs.declared.fault.FaultKind.TheVariants.{BadNumber, Duplicate, Undeclared}
 use Rattle.script_grammar.specs.declared.instructions.Operand.{Operand}
@@ -56,10 +57,6 @@ pub name_found : (ws : List (List ℕ)) (n : List ℕ) (rest : List (List ℕ)) 
 name_found [] n rest ok = cc
 name_found (w ∷ ws) n rest ok = named_ok (is_name w) w n ws rest _ refl ok
 
-none_or : (a b : Bool) → a ≡ false → b ≡ false → (a || b) ≡ false
-none_or false b e f = f
-none_or true b e f = e
-
 -- a name with no place is none of the list
 fresh_from : (i : ℕ) (name : List ℕ) (names : List (List ℕ)) → place_from i name names ≡ None
     → list_any (λ x. bytes_eq x name) names ≡ false
@@ -69,7 +66,7 @@ fresh_from i name (x ∷ names) e = by_test (bytes_eq x name) refl (λ f. fresh_
     by_test : (b : Bool) → bytes_eq x name ≡ b → (place_from (i + 1) name names ≡ None → list_any (λ y. bytes_eq y name) names ≡ false)
         → (if b then Some i else place_from (i + 1) name names) ≡ None → list_any (λ y. bytes_eq y name) (x ∷ names) ≡ false
     by_test true t more f = cc
-    by_test false t more f = none_or (bytes_eq x name) (list_any (λ y. bytes_eq y name) names) t (more f)
+    by_test false t more f = or_from (bytes_eq x name) (list_any (λ y. bytes_eq y name) names) t (more f)
 
 fresh_ok : (names : List (List ℕ)) (o : Option ℕ) (w n : List ℕ) (ws rest : List (List ℕ)) → o ≡ place_from 0 w names
     → unless_found {X = List ℕ × List (List ℕ)} o (w, ws) ≡ Ok (n, rest) → (w ≡ n) × (ws ≡ rest) × (place_from 0 n names ≡ None)
@@ -147,9 +144,6 @@ either true t e f = refl
 either false true e f = e
 either false false e f = f
 
-is_zero : (n : ℕ) → (n == 0) ≡ true → n ≡ 0
-is_zero n e = grind (arith, nat_tests)
-
 is_same : (n : ℕ) → n ≡ 48 → (n == 48) ≡ true
 is_same n e = grind (arith, nat_tests)
 
@@ -160,7 +154,7 @@ decimal_again (b ∷ rest) n small = decimal-digits_value own (b ∷ rest) (numb
     (λ zero. ap suc (alone zero)) small
   where
     alone : b ≡ 48 → length rest ≡ 0
-    alone zero = is_zero (length rest) (either (length rest == 0) (b == 48)
+    alone zero = eqb-true (length rest) 0 (either (length rest == 0) (b == 48)
         (both_true (nat_lt (length rest) 10) _ (both_true (all_ascii_digits (b ∷ rest)) _ n).1).1 (is_same b zero))
 
 valued : (w : List ℕ) (n : ℕ) (a b : Bool) → is_number w ≡ a → nat_lt (digits_value 10 w) (2 ^ 32) ≡ b

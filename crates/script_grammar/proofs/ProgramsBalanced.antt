@@ -188,28 +188,13 @@ line_first nest End code h s = end_first nest code (h.ends refl) s
 
 some_next : (nest : List ℕ) (x : Instruction) → Allowed nest x → EachSome (nest_then without_end nest x)
 unfolding EachSome
-some_next nest (Send c v) h = h.some
-some_next nest (TrySend c v) h = h.some
-some_next nest (Receive c) h = h.some
-some_next nest (TryReceive c) h = h.some
-some_next nest (Close c) h = h.some
-some_next nest (CancelChannel c) h = h.some
-some_next nest Yield h = h.some
-some_next nest (Launch p how job) h = h.some
-some_next nest (Start j) h = h.some
-some_next nest (Join j) h = h.some
-some_next nest (Await j) h = h.some
-some_next nest (Cancel j) h = h.some
-some_next nest (Fail k) h = h.some
-some_next nest (SetResult v) h = h.some
 some_next nest (Repeat k) h = (h.turns k refl, h.some)
 some_next nest (Each c) h = (omega arith, h.some)
 some_next nest (Scope supervisor) h = (omega arith, h.some)
 some_next nest Select h = (omega arith, h.some)
-some_next nest (OnSend c v) h = h.some
-some_next nest (OnReceive c) h = h.some
 some_next [] End h = tt
 some_next (n ∷ nest) End h = h.some.1
+some_next nest other h = h.some
 
 -- ---- what the grammar asks of a line
 
@@ -323,7 +308,7 @@ whole _ (Segments.last code bs n b) = subst (λ m. Balanced code (launched code)
 
 -- ---- programs
 
-weight_grows : (weights : List ℕ) (jobs : List (List ℕ)) (b : Open) (code : List Instruction)
+pub weight_grows : (weights : List ℕ) (jobs : List (List ℕ)) (b : Open) (code : List Instruction)
     → b.weight ≤ (with_lines weights jobs b code).weight
 weight_grows weights jobs b [] = omega arith
 weight_grows weights jobs b (x ∷ code) = let more = weight_grows weights jobs (with_line weights x (name_given jobs x) b) code

@@ -4,7 +4,7 @@ use Rattle.std.specs.Prelude.{not, is_some, option_map}
 use Rattle.std.specs.List.{list_all}
 use Rattle.std.proofs.lemmas.List.{map-append, append-nil}
 use Rattle.script_grammar.specs.declared.instructions.Instruction.{Instruction}
-use Rattle.script_grammar.specs.declared.instructions.Instruction.TheVariants.{Send, TrySend, Receive, TryReceive, Close, CancelChannel, Yield, Launch, Start, Join, Await, Cancel, Fail, SetResult, Repeat, Each, Scope, Select, OnSend, OnReceive, End}
+use Rattle.script_grammar.specs.declared.instructions.Instruction.TheVariants.{Send, TrySend, Receive, TryReceive, Close, CancelChannel, Each, OnSend, OnReceive}
 use Rattle.script_grammar.specs.Words.{has_items}
 use Rattle.script_grammar.specs.Programs.{Declared, Block, Program, channel_names, block_names, name_of, places_in}
 use Rattle.script_grammar.specs.Blocks.{Open, opened, with_line, stands, fits, is_main, job_given, listed}
@@ -19,13 +19,9 @@ use Rattle.script_grammar.proofs.DistinctNames.{name_of-front, name_of-last}
 use Rattle.script_grammar.proofs.BlocksPrinted.{after_all}
 use Rattle.script_grammar.proofs.TextPrinted.{Spells-canonical_text}
 use Rattle.script_grammar.proofs.TextsRead.{read-from_Spells}
+use Rattle.channel_model.proofs.Elements.{all_push}
 
 -- ---- lists
-
-all_push : {A : Type 0} (test : A → Bool) (xs : List A) (x : A) → list_all test xs ≡ true → test x ≡ true
-    → list_all test (xs ++ x ∷ []) ≡ true
-all_push test [] x e f = both (test x) true f refl
-all_push test (y ∷ xs) x e f = let two = both_true _ _ e in both (test y) _ two.0 (all_push test xs x two.1 f)
 
 all_still : {A : Type 0} (test other : A → Bool) (xs : List A) → ((x : A) → test x ≡ true → other x ≡ true) → list_all test xs ≡ true
     → list_all other xs ≡ true
@@ -56,21 +52,10 @@ fits-more n m blocks b (Receive c) h e = lt-more c n m h e
 fits-more n m blocks b (TryReceive c) h e = lt-more c n m h e
 fits-more n m blocks b (Close c) h e = lt-more c n m h e
 fits-more n m blocks b (CancelChannel c) h e = lt-more c n m h e
-fits-more n m blocks b Yield h e = e
-fits-more n m blocks b (Launch p how job) h e = e
-fits-more n m blocks b (Start j) h e = e
-fits-more n m blocks b (Join j) h e = e
-fits-more n m blocks b (Await j) h e = e
-fits-more n m blocks b (Cancel j) h e = e
-fits-more n m blocks b (Fail k) h e = e
-fits-more n m blocks b (SetResult v) h e = e
-fits-more n m blocks b (Repeat k) h e = e
 fits-more n m blocks b (Each c) h e = lt-more c n m h e
-fits-more n m blocks b (Scope supervisor) h e = e
-fits-more n m blocks b Select h e = e
 fits-more n m blocks b (OnSend c v) h e = let two = both_true _ _ e in both (nat_lt c m) _ (lt-more c n m h two.0) two.1
 fits-more n m blocks b (OnReceive c) h e = let two = both_true _ _ e in both (nat_lt c m) _ (lt-more c n m h two.0) two.1
-fits-more n m blocks b End h e = e
+fits-more n m blocks b other h e = e
 
 line_fits-more : (n m : ℕ) (blocks : List (List ℕ)) (b : Open) (x : Instruction) (job : Option (List ℕ)) → n ≤ m
     → line_fits n blocks b x job ≡ true → line_fits m blocks b x job ≡ true

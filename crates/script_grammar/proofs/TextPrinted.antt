@@ -9,12 +9,12 @@ use Rattle.std.proofs.lemmas.Bool.Decides.{nat_tests}
 use Rattle.std.proofs.lemmas.Fmt.{digits_decimal, decimal_nonempty}
 use lib.Chars.{codes}
 use Rattle.channel_model.specs.declared.acts.Kind.{Kind}
-use Rattle.channel_model.specs.declared.acts.Kind.TheVariants.{Rendezvous, Buffered, Unlimited, Conflated, DropOldest, DropLatest, Signal}
+use Rattle.channel_model.specs.declared.acts.Kind.TheVariants.{Buffered, DropOldest, DropLatest, Signal}
 use Rattle.script_grammar.specs.declared.instructions.Operand.{Operand}
-use Rattle.script_grammar.specs.declared.instructions.Operand.TheVariants.{Number, It, Sum}
+use Rattle.script_grammar.specs.declared.instructions.Operand.TheVariants.{Number}
 use Rattle.script_grammar.specs.declared.instructions.Launching.TheVariants.{Plain, Async, Lazy}
 use Rattle.script_grammar.specs.declared.instructions.Instruction.{Instruction}
-use Rattle.script_grammar.specs.declared.instructions.Instruction.TheVariants.{Send, TrySend, Receive, TryReceive, Close, CancelChannel, Yield, Launch, Start, Join, Await, Cancel, Fail, SetResult, Repeat, Each, Scope, Select, OnSend, OnReceive, End}
+use Rattle.script_grammar.specs.declared.instructions.Instruction.TheVariants.{Send, TrySend, Receive, TryReceive, Close, CancelChannel, Launch, Start, Join, Await, Cancel, Fail, SetResult, Repeat, Each, Scope, OnSend, OnReceive}
 use Rattle.script_grammar.specs.Words.{lines_of, with_words, all_plain, has_items, indented, unlines}
 use Rattle.script_grammar.specs.Programs.{Declared, Block, Program, channel_names, block_names, name_of}
 use Rattle.script_grammar.specs.Lines.{part, kind_words, channel_words, coroutine_words, spawn_words, line_words, operand_word, Names}
@@ -55,8 +55,7 @@ decimal_written n h = digits_written (decimal n) (digits_decimal own n (omega (a
 
 operand_written : (v : Operand) → is_operand v ≡ true → is_written (operand_word v) ≡ true
 operand_written (Number n) h = decimal_written n (lt-from_true n (2 ^ 32) h)
-operand_written It h = refl
-operand_written Sum h = refl
+operand_written other h = refl
 
 -- a line that has words, all of them written
 abbrev pub Written : List (List ℕ) → Type 0
@@ -101,7 +100,6 @@ line_written s b (Receive c) job is named h gives = (refl, one (name_of (channel
 line_written s b (TryReceive c) job is named h gives = (refl, one (name_of (channel_names s.channels) c) (channel_written s c is h))
 line_written s b (Close c) job is named h gives = (refl, one (name_of (channel_names s.channels) c) (channel_written s c is h))
 line_written s b (CancelChannel c) job is named h gives = (refl, one (name_of (channel_names s.channels) c) (channel_written s c is h))
-line_written s b Yield job is named h gives = (refl, refl)
 line_written s b (Launch p Plain None) job is named h gives = (
   refl,
   one (name_of (block_names s.blocks) p) (block_written s p is
@@ -149,14 +147,13 @@ line_written s b (Repeat n) job is named h gives = let high : n ≤ 1000000 = le
 line_written s b (Each c) job is named h gives = (refl, one (name_of (channel_names s.channels) c) (channel_written s c is h))
 line_written s b (Scope false) job is named h gives = (refl, refl)
 line_written s b (Scope true) job is named h gives = (refl, refl)
-line_written s b Select job is named h gives = (refl, refl)
 line_written s b (OnSend c v) job is named h gives = let two = both_true _ _ h in let more = both_true _ _ two.1
     in (refl, pair_ (name_of (channel_names s.channels) c) (operand_word v) (channel_written s c is two.0) (operand_written v more.1))
 line_written s b (OnReceive c) job is named h gives = (
   refl,
   one (name_of (channel_names s.channels) c) (channel_written s c is (both_true _ _ h).0),
 )
-line_written s b End job is named h gives = (refl, refl)
+line_written s b other job is named h gives = (refl, refl)
 
 fresh_written : (names : List (List ℕ)) (name : List ℕ) → is_fresh names name ≡ true → is_written name ≡ true
 fresh_written names name e = name_written name (both_true _ _ e).0
@@ -177,13 +174,11 @@ small_capacity : (k : ℕ) → is_capacity k ≡ true → k < 2 ^ 32
 small_capacity k h = let high : k ≤ 65535 = le-from_true k 65535 (both_true _ _ h).1 in omega (arith, high)
 
 kind_written : (version : ℕ) (kind : Kind) (full : Bool) → is_kind version kind ≡ true → list_all is_written (kind_words kind full) ≡ true
-kind_written version Rendezvous full h = refl
 kind_written version (Buffered k) full h = part_written full k (small_capacity k h)
-kind_written version Unlimited full h = refl
-kind_written version Conflated full h = refl
 kind_written version (DropOldest k) full h = one (decimal k) (decimal_written k (small_capacity k h))
 kind_written version (DropLatest k) full h = one (decimal k) (decimal_written k (small_capacity k (both_true _ _ h).1))
 kind_written version Signal full h = cc
+kind_written version other full h = refl
 
 form_written : (s : Read) (words : List (List ℕ)) (f : Form) → AreNamed s → Says s words f → Written words
 form_written s words version_is is says = subst Written (sym says.1) (refl, refl)

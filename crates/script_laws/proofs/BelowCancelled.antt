@@ -1,7 +1,7 @@
 -- At the end of a run all below a cancelled Job is Cancelling or ended.
 use Rattle.std.proofs.Common.{◌≡◌, ℕ, Bool, true, false, ◌&&◌, List, [], ◌∷◌, ◌++◌, refl, ap, sym, ◌∙◌, subst, inl, inr, ◌⊎◌, ⊎_elim, Option, Some, None, if◌then◌else◌}
 use Rattle.std.specs.Prelude.{◌==◌, map}
-use Rattle.std.proofs.lemmas.Bool.{eqb-true}
+use Rattle.std.proofs.lemmas.Bool.{eqb-true, both_ways}
 use Rattle.channel_model.specs.declared.acts.Entry.{Entry}
 use Rattle.job_model.specs.declared.acts.JobState.{JobState}
 use Rattle.job_model.specs.declared.acts.JobState.TheVariants.{New, Active, Completing, Cancelling, Cancelled, Completed}
@@ -26,7 +26,7 @@ use Rattle.job_model.proofs.Families.{replay_families, parent_was}
 use Rattle.job_model.specs.Cancels.{own_cancel, IsCancelBelow, AreCancelsBelow}
 use Rattle.job_model.specs.Failures.{FailsUp}
 use Rattle.note_book.specs.declared.book.Item.{Item}
-use Rattle.call_meaning.specs.Telling.{Told, note, on_channels, on_jobs, JobFact, PassedBelow, FailedUp, did}
+use Rattle.call_meaning.specs.Telling.{Told, on_jobs, JobFact, PassedBelow, FailedUp, did}
 use Rattle.call_meaning.specs.JobCalls.{Passes, Chain}
 use Rattle.script_grammar.specs.Programs.{Program}
 use Rattle.script_meaning.specs.Shapes.{job_shape, base_of}
@@ -36,7 +36,6 @@ use Rattle.script_meaning.proofs.Payments.{AllPaid}
 use Rattle.script_meaning.proofs.JobPieces.{job_told, JobPiece, quiet_closes}
 use Rattle.script_meaning.proofs.JobStories.{step, who_did, deed, JobHolds}
 use Rattle.script_meaning.proofs.JobDebts.{JobPaid, JobDebt, paid_then, paid_quiet, nobody_owes, needs_there}
-use Rattle.script_laws.proofs.DoneJobsEnded.{contrary}
 
 abbrev pub cancelled_at : Option Job → Bool
 cancelled_at None = false
@@ -64,9 +63,8 @@ CoversRow r (FailedUp row acts) = Exists (IsCancelOf r) acts
 CoversRow r other = ⊥
 
 abbrev pub TakesBelow : ℕ → JobAct → Told → Type 0
-TakesBelow r a (note i) = ⊥
-TakesBelow r a (on_channels fact) = ⊥
 TakesBelow r a (on_jobs fact) = CoversRow r fact
+TakesBelow r a other = ⊥
 
 -- ---- what is told
 
@@ -131,14 +129,13 @@ chain_calm p k r d row g (Chain.goes_up _ parent end closes rest _ n c up e) =
 below_pieces : (p : Program) (r d k : ℕ) (g : List Told) → JobPiece p k g → BelowPaid k r d g
 unfolding AllPaid
 below_pieces p r d k _ (JobPiece.quiet g q) = paid_quiet k (owes_below r d) (IsCancelOf r) (TakesBelow r) g q
-below_pieces p r d k _ (JobPiece.attaches parent row kind tag now) = (λ x. absurd x, tt)
-below_pieces p r d k _ (JobPiece.starts row) = (λ x. absurd x, tt)
 below_pieces p r d k g (JobPiece.passes row reason newly _ m o t) = pass_pays k r d row reason newly g t
 below_pieces p r d k g (JobPiece.fails f up pass _ t e) =
     subst (BelowPaid k r d) (sym e) (paid_then k (owes_below r d) (IsCancelOf r) (TakesBelow r) pass _
     (pass_pays k r d k (reasons.Own f) true pass t) (paid_by_last k (owes_below r d) (IsCancelOf r) (TakesBelow r) (on_jobs (FailedUp k up))
     up refl (covered r (on_jobs (FailedUp k up)) up (λ x a. x))))
 below_pieces p r d k _ (JobPiece.ends_body row v chain t) = (λ x. absurd x, chain_calm p k r d row chain t)
+below_pieces p r d k _ other = (λ x. absurd x, tt)
 
 -- ---- what takes it away
 
@@ -198,29 +195,27 @@ below_by_fact r d at other h c = absurd c
 
 below_by_told : (r d : ℕ) (a : JobAct) (t : Told) (at : List JobEntry) → JobHolds t at → TakesBelow r a t
     → owes_below r d (replay at) ≡ false
-below_by_told r d a (note i) at h t = absurd t
-below_by_told r d a (on_channels fact) at h t = absurd t
 below_by_told r d a (on_jobs fact) at h t = below_by_fact r d at fact h t
+below_by_told r d a other at h t = absurd t
 
 pub no_act : (r : ℕ) (a : JobAct) (t : Told) (b : JobAct) → job_told t ≡ Some b → TakesBelow r a t → ⊥
-no_act r a (note i) b m t = t
-no_act r a (on_channels fact) b m t = t
 no_act r a (on_jobs fact) b m t = cc
+no_act r a other b m t = t
 
 -- ---- which act raises it
 
 newly_cancelled : (shape : _) (tree : Tree) (who r : ℕ) (act : JobAct) (x y : Option Job) → RowStep shape tree who r act x y
     → cancelled_at x ≡ false → cancelled_at y ≡ true → IsCancelOf r act ⊎ (x ≡ None)
 newly_cancelled shape tree who r _ _ _ (RowStep.is_attached p kind tag cancelled m i) f t = inr refl
-newly_cancelled shape tree who r _ _ _ (RowStep.has_child c kind tag cancelled j none m) f t = absurd (contrary (is_cancelled j.state) t f)
+newly_cancelled shape tree who r _ _ _ (RowStep.has_child c kind tag cancelled j none m) f t = absurd (both_ways (is_cancelled j.state) f t)
 newly_cancelled shape tree who r _ _ _ (RowStep.is_started j n) f t = cc
 newly_cancelled shape tree who r _ _ _ (RowStep.body_ends v j m) f t =
-    absurd (contrary (is_cancelled j.state) (body_cancelled j.state ∙ t) f)
+    absurd (both_ways (is_cancelled j.state) f (body_cancelled j.state ∙ t))
 newly_cancelled shape tree who r _ _ _ (RowStep.is_cancelled reason j m o) f t = inl refl
 newly_cancelled shape tree who r _ _ _ (RowStep.ends end j m) f t =
-    absurd (contrary (is_cancelled j.state) (end_cancelled j.state j end m.2 ∙ t) f)
-newly_cancelled shape tree who r _ _ _ (RowStep.is_told c j m p) f t = absurd (contrary (is_cancelled j.state) t f)
-newly_cancelled shape tree who r _ _ _ (RowStep.stays act x a b c d e) f t = absurd (contrary (cancelled_at x) t f)
+    absurd (both_ways (is_cancelled j.state) f (end_cancelled j.state j end m.2 ∙ t))
+newly_cancelled shape tree who r _ _ _ (RowStep.is_told c j m p) f t = absurd (both_ways (is_cancelled j.state) f t)
+newly_cancelled shape tree who r _ _ _ (RowStep.stays act x a b c d e) f t = absurd (both_ways (cancelled_at x) f t)
 
 -- a Job that may have a child which is not cancelled at once is not cancelled
 not_yet : (o : Option Job) (cancelled lazy : Bool) → MayHaveChild cancelled o → is_cancellable (first_state cancelled lazy) ≡ true
@@ -238,14 +233,9 @@ new_cancellable : (shape : _) (tree : Tree) (who r q : ℕ) (act : JobAct) (x y 
     → cancelled_at (tree r) ≡ true → ⊥
 new_cancellable shape tree who r q _ _ _ kind tag cancelled (RowStep.is_attached p kind' tag' cancelled' m i) e c n t =
     not_yet (tree r) cancelled' kind'.lazy (subst (λ u. MayHaveChild cancelled' (tree u)) (let f : p ≡ r = cc in f) m) c t
-new_cancellable shape tree who r q _ _ _ kind tag cancelled (RowStep.has_child d kind' tag' cancelled' j none m) e c n t = cc
-new_cancellable shape tree who r q _ _ _ kind tag cancelled (RowStep.is_started j m) e c n t = cc
-new_cancellable shape tree who r q _ _ _ kind tag cancelled (RowStep.body_ends v j m) e c n t = cc
-new_cancellable shape tree who r q _ _ _ kind tag cancelled (RowStep.is_cancelled reason j m o) e c n t = cc
-new_cancellable shape tree who r q _ _ _ kind tag cancelled (RowStep.ends end j m) e c n t = cc
-new_cancellable shape tree who r q _ _ _ kind tag cancelled (RowStep.is_told d j m p) e c n t = cc
 new_cancellable shape tree who r q _ _ _ kind tag cancelled (RowStep.stays act x a b d f g) e c n t =
-    absurd (let z : cancellable_at x ≡ false = ap cancellable_at n in contrary (cancellable_at x) c z)
+    absurd (let z : cancellable_at x ≡ false = ap cancellable_at n in both_ways (cancellable_at x) z c)
+new_cancellable shape tree who r q _ _ _ kind tag cancelled other e c n t = cc
 
 three : (a b c : Bool) → (a && (b && c)) ≡ true → (a ≡ true) × (b ≡ true) × (c ≡ true)
 three true true true h = (refl, refl, refl)
@@ -286,9 +276,9 @@ below_raised shape tree who r d act fam needs f t =
     child_before c y e =
         let now : cancellable_at (tree d) ≡ false = last_false (cancelled_at (tree r)) (is_row r (parent_of (tree d)))
         (cancellable_at (tree d)) f c (row_same r (parent_of (tree d)) e) in
-        contrary (cancellable_at (after tree who act d)) y (settled (after tree who act d)
+        both_ways (cancellable_at (after tree who act d)) (settled (after tree who act d)
         (act_keeps IsCancellingOrEnded cancelling_lasts shape tree who act d needs
-        (stays_cancelling (tree d) now (some_parent (tree d) r e))))
+        (stays_cancelling (tree d) now (some_parent (tree d) r e)))) y
 
     at : (b : Bool) → cancelled_at (tree r) ≡ b → cancelled_at (after tree who act r) ≡ true → parent_of (after tree who act d) ≡ Some r
         → cancellable_at (after tree who act d) ≡ true → IsCancelOf r act

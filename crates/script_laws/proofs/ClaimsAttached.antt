@@ -3,7 +3,7 @@
 use Rattle.std.specs.Prelude.{◌≡◌, ℕ, zero, suc, ◌+◌, ◌<◌, ◌≤◌, ◌==◌, ◌⊎◌, Bool, true, false, ◌||◌, List, [], ◌∷◌, Option, Some, None, is_some, if◌then◌else◌, refl}
 use Rattle.std.specs.List.{list_any}
 use Rattle.std.proofs.Common.{sym, ap, ◌∙◌, subst, inl, inr, ⊎_elim, arith}
-use Rattle.std.proofs.lemmas.Bool.{eqb-true, or_from}
+use Rattle.std.proofs.lemmas.Bool.{eqb-true, or_from, or_cases, or_parts}
 use Rattle.std.proofs.lemmas.List.Folds.{list_any-append}
 use Rattle.channel_model.specs.Floors.{Floor as ChannelFloor}
 use Rattle.job_model.specs.declared.acts.JobAct.{JobAct}
@@ -49,10 +49,6 @@ is_among-rows_in r (act ∷ acts) =
     ∙ ap (λ b. b || is_among r (rows_in acts)) (same_row r act)
     ∙ ap (λ b. attaches r act || b) (is_among-rows_in r acts)
 
-pub or_either : (a b : Bool) → (a || b) ≡ true → (a ≡ true) ⊎ (b ≡ true)
-or_either true b e = inl refl
-or_either false b e = inr e
-
 -- an own row is the root's, or was attached
 own_or_attached : (k r : ℕ) (book : List Item) → is_among r (own_rows k book) ≡ true → (r ≡ 0)
     ⊎ (list_any (attaches r) (job_acts_in book) ≡ true)
@@ -60,14 +56,14 @@ own_or_attached k r book e =
     ⊎_elim
     (λ f. inl (first (k == 0) f))
     (λ f. inr (sym (is_among-rows_in r (job_acts_in book)) ∙ f))
-    (or_either (is_among r roots) (is_among r (rows_in (job_acts_in book)))
+    (or_cases (is_among r roots) (is_among r (rows_in (job_acts_in book)))
     (sym (list_any-append (λ q. r == q) roots (rows_in (job_acts_in book))) ∙ e))
   where
     roots : List ℕ
     roots = if k == 0 then 0 ∷ [] else []
 
     first : (b : Bool) → is_among r (if b then 0 ∷ [] else []) ≡ true → r ≡ 0
-    first true f = ⊎_elim (λ g. eqb-true r 0 g) (λ g. cc) (or_either (r == 0) false f)
+    first true f = ⊎_elim (λ g. eqb-true r 0 g) (λ g. cc) (or_cases (r == 0) false f)
     first false f = cc
 
 -- ---- a coroutine on its floors
@@ -172,14 +168,10 @@ abbrev pub is_spent : ℕ → Item → Bool
 is_spent base (item.Channel n) = is_channel_refusal base n
 is_spent base (item.Job n) = false
 
-or_not : (a b : Bool) → (a || b) ≡ false → (a ≡ false) × (b ≡ false)
-or_not true b e = cc
-or_not false b e = (refl, e)
-
 pub all_refusals : (base : ℕ) (items : List Item) → list_any (is_spent base) items ≡ false → list_any is_no_row items ≡ false
     → list_any is_used items ≡ false → list_any is_parent_ended items ≡ false → list_any (is_refusal base) items ≡ false
 all_refusals base [] s n u e = refl
-all_refusals base (item.Channel x ∷ items) s n u e = let two = or_not (is_channel_refusal base x) (list_any (is_spent base) items) s
+all_refusals base (item.Channel x ∷ items) s n u e = let two = or_parts (is_channel_refusal base x) (list_any (is_spent base) items) s
     in or_from (is_channel_refusal base x) (list_any (is_refusal base) items) two.0 (all_refusals base items two.1 n u e)
 all_refusals base (item.Job (known.Made act) ∷ items) s n u e = all_refusals base items s n u e
 all_refusals base (item.Job (known.Saw row) ∷ items) s n u e = all_refusals base items s n u e

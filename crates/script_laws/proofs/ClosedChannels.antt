@@ -2,14 +2,12 @@
 use Rattle.script_grammar.proofs.Truths.{both_true}
 use Rattle.std.proofs.Common.{◌≡◌, ℕ, ◌<◌, ◌≤◌, arith, Bool, true, false, not, ◌&&◌, List, [], ◌∷◌, ◌++◌, filter, refl, ap, sym, ◌∙◌, subst, Option, Some, None, if◌then◌else◌}
 use Rattle.std.specs.Prelude.{◌==◌, ◌||◌, ◌+◌, is_some, nat_le, cond}
-use Rattle.std.proofs.lemmas.Bool.{eqb-true, or_right}
-use Rattle.std.proofs.lemmas.Bool.Decides.{nat_tests}
+use Rattle.std.proofs.lemmas.Bool.{eqb-true, or_right, both_ways, and_from, and_right}
 use Rattle.co_base.specs.declared.names.WaitId.{WaitId}
 use Rattle.channel_model.specs.declared.acts.Act.{Act}
 use Rattle.channel_model.specs.declared.acts.Act.TheVariants.{Hand, Put, Offer, Await, Take, Admit, Drop, Spurn, Close, Void, Drain, WakeClosed, Withdraw, Settle}
 use Rattle.channel_model.specs.declared.acts.Entry.{Entry}
 use Rattle.channel_model.specs.declared.acts.Kind.{Kind}
-use Rattle.channel_model.specs.declared.acts.Kind.TheVariants.{Rendezvous, Buffered, Unlimited, Conflated, DropOldest, DropLatest, Signal}
 use Rattle.channel_model.specs.declared.standing.Party.{Party}
 use Rattle.channel_model.specs.declared.standing.Standing.{Standing}
 use Rattle.channel_model.specs.declared.standing.Receiver.{Receiver}
@@ -31,6 +29,7 @@ use Rattle.script_meaning.proofs.Debts.{part}
 use Rattle.script_meaning.proofs.ActsFollowed.{Follows}
 use Rattle.script_meaning.proofs.ChannelStories.{who_did, deed}
 use Rattle.script_laws.proofs.ChannelDebts.{CallDebt, BehindOf, CallPaidAt, by_fact, nobody_owes, needs_there, legal_before}
+use Rattle.channel_model.proofs.Stood.{spurns_more}
 
 -- ---- what most acts do to a channel: who stands there may go
 
@@ -83,15 +82,6 @@ admitted_places p n (o ∷ os) h = at (admitted_places p n os h.1) (o.place == p
 
 -- ---- elements that are too many for a kind that does not keep its latest
 
-more_spurns : (kind : Kind) (m n : ℕ) → m ≤ n → spurns kind m ≡ true → spurns kind n ≡ true
-more_spurns Rendezvous m n h e = cc
-more_spurns (Buffered k) m n h e = cc
-more_spurns Unlimited m n h e = cc
-more_spurns Conflated m n h e = cc
-more_spurns (DropOldest k) m n h e = cc
-more_spurns (DropLatest k) m n h e = grind (arith, nat_tests)
-more_spurns Signal m n h e = cc
-
 -- with more offers before the list, no fewer are too many
 pub more_owes : (kind : Kind) (q m n : ℕ) (os : List Standing) → m ≤ n → owes_spurn_at kind q m os ≡ true → owes_spurn_at kind q n os ≡ true
 more_owes kind q m n [] h e = cc
@@ -99,7 +89,7 @@ more_owes kind q m n (o ∷ os) h e = at (o.place == q) (spurns kind m) refl (λ
   where
     at : (b s : Bool) → spurns kind m ≡ s → (owes_spurn_at kind q (m + 1) os ≡ true → owes_spurn_at kind q (n + 1) os ≡ true)
         → ((b && s) || owes_spurn_at kind q (m + 1) os) ≡ true → ((b && spurns kind n) || owes_spurn_at kind q (n + 1) os) ≡ true
-    at true true t later e = ap (λ (x : Bool). x || owes_spurn_at kind q (n + 1) os) (more_spurns kind m n h t)
+    at true true t later e = ap (λ (x : Bool). x || owes_spurn_at kind q (n + 1) os) (spurns_more kind m n h t)
     at true false t later e = or_right (spurns kind n) _ (later e)
     at false s t later e = later e
 
@@ -113,7 +103,7 @@ filtered_owes test kind q m n (o ∷ os) h e =
     at : (b s : Bool) → spurns kind m ≡ s → (owes_spurn_at kind q (m + 1) (filter test os) ≡ true → owes_spurn_at kind q (n + 1) os ≡ true)
         → ((b && s) || owes_spurn_at kind q (m + 1) (filter test os)) ≡ true
         → ((b && spurns kind n) || owes_spurn_at kind q (n + 1) os) ≡ true
-    at true true t later e = ap (λ (x : Bool). x || owes_spurn_at kind q (n + 1) os) (more_spurns kind m n h t)
+    at true true t later e = ap (λ (x : Bool). x || owes_spurn_at kind q (n + 1) os) (spurns_more kind m n h t)
     at true false t later e = or_right (spurns kind n) _ (later e)
     at false s t later e = later e
 
@@ -277,15 +267,6 @@ less_after s who (Settle w outcome) h = λ c. less_same (s.channels c)
 less_after s who (Put c q v) h = cc
 less_after s who other h = cc
 
-pub contrary : (b : Bool) → b ≡ true → b ≡ false → ⊥
-contrary true p q = cc
-contrary false p q = cc
-
-pub and_true : (a b : Bool) → a ≡ true → b ≡ true → (a && b) ≡ true
-and_true true true p q = refl
-and_true true false p q = cc
-and_true false b p q = cc
-
 -- ---- receivers of closed channels
 
 abbrev pub keeps_receivers : Channel → Bool
@@ -301,8 +282,8 @@ IsCloseOf c other = ⊥
 by_less : (a b : Channel) → Less a b → keeps_receivers a ≡ false → keeps_receivers b ≡ true → ⊥
 by_less a b h f t =
     let q = both_true (is_some b.closed) (stands_any b.receivers) t in
-    contrary (keeps_receivers a) (and_true (is_some a.closed) (stands_any a.receivers) (sym (ap is_some h.closed) ∙ q.0) (h.receivers q.1))
-    f
+    both_ways (keeps_receivers a) f (and_from (is_some a.closed) (stands_any a.receivers) (sym (ap is_some h.closed)
+    ∙ q.0) (h.receivers q.1))
 
 close_raised : (shape : Shape) (s : State) (who c : ℕ) (act : Act) → Needs shape s who act → owes_close c s ≡ false
     → owes_close c (after s who act) ≡ true → IsCloseOf c act
@@ -311,16 +292,16 @@ close_raised shape s who c (Put d q v) n f t = absurd (at (d == c) refl t)
     at : (b : Bool) → (d == c) ≡ b
         → keeps_receivers (if b then place_offer true (record { place = q; value = v; holder = None }) (s.channels d) else s.channels c) ≡
         true → ⊥
-    at true e t = contrary (owes_close c s) (subst (λ n. owes_close n s ≡ true) (eqb-true d c e) t) f
-    at false e t = contrary (owes_close c s) t f
+    at true e t = both_ways (owes_close c s) f (subst (λ n. owes_close n s ≡ true) (eqb-true d c e) t)
+    at false e t = both_ways (owes_close c s) f t
 close_raised shape s who c (Offer d q v w k) n f t = absurd (at (d == c) refl (is_open (s.waits w)) t)
   where
     at : (b : Bool) → (d == c) ≡ b → (o : Bool) → keeps_receivers
         (if b then place_offer o (record { place = q; value = v; holder = Some (record { wait = w; clause = k }) }) (s.channels d) else
         s.channels c) ≡ true → ⊥
-    at true e true t = contrary (owes_close c s) (subst (λ n. owes_close n s ≡ true) (eqb-true d c e) t) f
-    at true e false t = contrary (owes_close c s) (subst (λ n. owes_close n s ≡ true) (eqb-true d c e) t) f
-    at false e o t = contrary (owes_close c s) t f
+    at true e true t = both_ways (owes_close c s) f (subst (λ n. owes_close n s ≡ true) (eqb-true d c e) t)
+    at true e false t = both_ways (owes_close c s) f (subst (λ n. owes_close n s ≡ true) (eqb-true d c e) t)
+    at false e o t = both_ways (owes_close c s) f t
 close_raised shape s who c (Await d q w k) n f t = absurd (at (d == c) refl (is_open (s.waits w)) t)
   where
     not_open : (x : Option ℕ) (y : Bool) → x ≡ None → (is_some x && y) ≡ true → ⊥
@@ -332,17 +313,17 @@ close_raised shape s who c (Await d q w k) n f t = absurd (at (d == c) refl (is_
         → ⊥
     at true e true t = not_open (s.channels d).closed _ n.1.open_now t
     at true e false t = not_open (s.channels d).closed _ n.1.open_now t
-    at false e o t = contrary (owes_close c s) t f
+    at false e o t = both_ways (owes_close c s) f t
 close_raised shape s who c (Close d v) n f t = at (d == c) refl t
   where
     at : (b : Bool) → (d == c) ≡ b → keeps_receivers (if b then record (s.channels d) { closed = Some v } else s.channels c) ≡ true → d ≡ c
     at true e t = eqb-true d c e
-    at false e t = absurd (contrary (owes_close c s) t f)
+    at false e t = absurd (both_ways (owes_close c s) f t)
 close_raised shape s who c (Void d) n f t = absurd (at (d == c) refl t)
   where
     at : (b : Bool) → (d == c) ≡ b → keeps_receivers (if b then record (s.channels d) { voided = true } else s.channels c) ≡ true → ⊥
-    at true e t = contrary (owes_close c s) (subst (λ n. owes_close n s ≡ true) (eqb-true d c e) t) f
-    at false e t = contrary (owes_close c s) t f
+    at true e t = both_ways (owes_close c s) f (subst (λ n. owes_close n s ≡ true) (eqb-true d c e) t)
+    at false e t = both_ways (owes_close c s) f t
 close_raised shape s who c (Hand d p v) n f t = absurd (by_less (s.channels c) _ (less_after s who (Hand d p v) refl c) f t)
 close_raised shape s who c (Take d p v) n f t = absurd (by_less (s.channels c) _ (less_after s who (Take d p v) refl c) f t)
 close_raised shape s who c (Admit d p) n f t = absurd (by_less (s.channels c) _ (less_after s who (Admit d p) refl c) f t)
@@ -351,14 +332,10 @@ close_raised shape s who c (Spurn d p v) n f t = absurd (by_less (s.channels c) 
 close_raised shape s who c (Drain d p v) n f t = absurd (by_less (s.channels c) _ (less_after s who (Drain d p v) refl c) f t)
 close_raised shape s who c (WakeClosed d p) n f t = absurd (by_less (s.channels c) _ (less_after s who (WakeClosed d p) refl c) f t)
 close_raised shape s who c (Withdraw w why) n f t = absurd (by_less (s.channels c) _ (less_after s who (Withdraw w why) refl c) f t)
-close_raised shape s who c (Settle w outcome) n f t = absurd (contrary (owes_close c s) t f)
+close_raised shape s who c (Settle w outcome) n f t = absurd (both_ways (owes_close c s) f t)
 
 none_receives : (c : ℕ) (s : State) → (s.channels c).receivers ≡ [] → owes_close c s ≡ false
-none_receives c s e = at (is_some (s.channels c).closed) (stands_any (s.channels c).receivers) (ap stands_any e)
-  where
-    at : (a b : Bool) → b ≡ false → (a && b) ≡ false
-    at true b h = h
-    at false b h = refl
+none_receives c s e = and_right (is_some (s.channels c).closed) (stands_any (s.channels c).receivers) (ap stands_any e)
 
 close_pays : (shape : Shape) (channels : List Entry) (c k : ℕ) (act : Act) (before : List Entry) (ys : List Told)
     → BehindOf shape k channels before act ys → IsCloseOf c act → Follows act ys
@@ -415,7 +392,7 @@ closed_if_voided shape es l = λ c v. at v ((replay es).channels c).closed (((so
 queue_by_less : (a b : Channel) → Less a b → keeps_offers a ≡ false → keeps_offers b ≡ true → ⊥
 queue_by_less a b h f t =
     let q = both_true b.voided (stands_any b.queue) t in
-    contrary (keeps_offers a) (and_true a.voided (stands_any a.queue) (sym h.voided ∙ q.0) (h.queue q.1)) f
+    both_ways (keeps_offers a) f (and_from a.voided (stands_any a.queue) (sym h.voided ∙ q.0) (h.queue q.1))
 
 open_not_voided : (ch : Channel) (y : Bool) → IsFit ch → ch.closed ≡ None → (ch.voided && y) ≡ true → ⊥
 open_not_voided ch y f e h = at ch.closed e (f (both_true ch.voided y h).0)
@@ -432,7 +409,7 @@ void_raised shape s who c (Put d q v) fit n f t = absurd (at (d == c) t)
         → keeps_offers (if b then place_offer true (record { place = q; value = v; holder = None }) (s.channels d) else s.channels c) ≡ true
         → ⊥
     at true t = open_not_voided (s.channels d) _ (fit d) n.1.open_now t
-    at false t = contrary (owes_void c s) t f
+    at false t = both_ways (owes_void c s) f t
 void_raised shape s who c (Offer d q v w k) fit n f t = absurd (at (d == c) (is_open (s.waits w)) t)
   where
     at : (b o : Bool)
@@ -440,7 +417,7 @@ void_raised shape s who c (Offer d q v w k) fit n f t = absurd (at (d == c) (is_
         (s.channels d) else s.channels c) ≡ true → ⊥
     at true true t = open_not_voided (s.channels d) _ (fit d) n.1.open_now t
     at true false t = open_not_voided (s.channels d) _ (fit d) n.1.open_now t
-    at false o t = contrary (owes_void c s) t f
+    at false o t = both_ways (owes_void c s) f t
 void_raised shape s who c (Await d q w k) fit n f t = absurd (at (d == c) (is_open (s.waits w)) t)
   where
     at : (b o : Bool)
@@ -448,17 +425,17 @@ void_raised shape s who c (Await d q w k) fit n f t = absurd (at (d == c) (is_op
         s.channels c) ≡ true → ⊥
     at true true t = open_not_voided (s.channels d) _ (fit d) n.1.open_now t
     at true false t = open_not_voided (s.channels d) _ (fit d) n.1.open_now t
-    at false o t = contrary (owes_void c s) t f
+    at false o t = both_ways (owes_void c s) f t
 void_raised shape s who c (Close d v) fit n f t = absurd (at (d == c) refl t)
   where
     at : (b : Bool) → (d == c) ≡ b → keeps_offers (if b then record (s.channels d) { closed = Some v } else s.channels c) ≡ true → ⊥
-    at true e t = contrary (owes_void c s) (subst (λ n. owes_void n s ≡ true) (eqb-true d c e) t) f
-    at false e t = contrary (owes_void c s) t f
+    at true e t = both_ways (owes_void c s) f (subst (λ n. owes_void n s ≡ true) (eqb-true d c e) t)
+    at false e t = both_ways (owes_void c s) f t
 void_raised shape s who c (Void d) fit n f t = at (d == c) refl t
   where
     at : (b : Bool) → (d == c) ≡ b → keeps_offers (if b then record (s.channels d) { voided = true } else s.channels c) ≡ true → d ≡ c
     at true e t = eqb-true d c e
-    at false e t = absurd (contrary (owes_void c s) t f)
+    at false e t = absurd (both_ways (owes_void c s) f t)
 void_raised shape s who c (Hand d p v) fit n f t = absurd (queue_by_less (s.channels c) _ (less_after s who (Hand d p v) refl c) f t)
 void_raised shape s who c (Take d p v) fit n f t = absurd (queue_by_less (s.channels c) _ (less_after s who (Take d p v) refl c) f t)
 void_raised shape s who c (Admit d p) fit n f t = absurd (queue_by_less (s.channels c) _ (less_after s who (Admit d p) refl c) f t)
@@ -469,14 +446,10 @@ void_raised shape s who c (WakeClosed d p) fit n f t = absurd
     (queue_by_less (s.channels c) _ (less_after s who (WakeClosed d p) refl c) f t)
 void_raised shape s who c (Withdraw w why) fit n f t = absurd
     (queue_by_less (s.channels c) _ (less_after s who (Withdraw w why) refl c) f t)
-void_raised shape s who c (Settle w outcome) fit n f t = absurd (contrary (owes_void c s) t f)
+void_raised shape s who c (Settle w outcome) fit n f t = absurd (both_ways (owes_void c s) f t)
 
 none_queued : (c : ℕ) (s : State) → (s.channels c).queue ≡ [] → owes_void c s ≡ false
-none_queued c s e = at (s.channels c).voided (stands_any (s.channels c).queue) (ap stands_any e)
-  where
-    at : (a b : Bool) → b ≡ false → (a && b) ≡ false
-    at true b h = h
-    at false b h = refl
+none_queued c s e = and_right (s.channels c).voided (stands_any (s.channels c).queue) (ap stands_any e)
 
 void_pays : (shape : Shape) (channels : List Entry) (c k : ℕ) (act : Act) (before : List Entry) (ys : List Told)
     → BehindOf shape k channels before act ys → IsVoidOf c act → Follows act ys

@@ -208,10 +208,9 @@ module _ (base : ℕ) where
 
   stops_none : (call : Call) (group : List Told) (a : Answer) → IsLow base call → Stops call group a → asks_in base group ≡ false
   unfolding items_in
-  stops_none _ _ _ low (Stops.receiver c v q) = refl
-  stops_none _ _ _ low (Stops.offer c q) = refl
   stops_none _ _ _ low (Stops.closed call told a h) = refused_none call told a h
   stops_none _ _ _ low (Stops.no_place call all e) = ap (asks_in base) e ∙ spent_none call low
+  stops_none _ _ _ low other = refl
 
   pub select_none : (calls : List Call) (group : List Told) (a : Answer) → AreLow base calls → SelectCall calls group a
       → asks_in base group ≡ false
@@ -245,11 +244,10 @@ module _ (base : ℕ) where
 
   pub gives_up_none : (w : WaitId) (group : List Told) → GivesUp w group → asks_in base group ≡ false
   unfolding items_in
-  gives_up_none w _ GivesUp.dispatched = refl
-  gives_up_none w _ (GivesUp.undelivered v) = refl
   gives_up_none w _ (GivesUp.withdrawn admits h) = admits_none w.channel admits h
   gives_up_none w _ (GivesUp.late admits h) = admits_none w.channel admits h
   gives_up_none w _ (GivesUp.late_undelivered v admits h) = admits_none w.channel admits h
+  gives_up_none w _ other = refl
 
   -- ---- Jobs
 

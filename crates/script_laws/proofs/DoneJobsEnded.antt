@@ -1,18 +1,16 @@
 -- At the end of a run each Job whose body has ended and no child of which lives has ended.
 use Rattle.std.proofs.Common.{◌≡◌, ℕ, Bool, true, false, not, ◌&&◌, List, [], ◌∷◌, ◌++◌, filter, refl, ap, sym, ◌∙◌, subst, inl, inr, ◌⊎◌, Option, Some, None, if◌then◌else◌}
 use Rattle.std.specs.Prelude.{◌==◌, map}
+use Rattle.std.proofs.lemmas.Bool.{both_ways}
+use Rattle.std.proofs.lemmas.Option.{same_Some}
 use Rattle.channel_model.specs.declared.acts.Entry.{Entry}
-use Rattle.job_model.specs.declared.acts.End.{End}
-use Rattle.job_model.specs.declared.acts.End.TheVariants as ends_as
-use Rattle.job_model.specs.declared.acts.JobState.{JobState}
-use Rattle.job_model.specs.declared.acts.JobState.TheVariants.{New, Active, Completing, Cancelling, Cancelled, Completed}
 use Rattle.job_model.specs.declared.acts.Reason.{Reason}
 use Rattle.job_model.specs.declared.acts.Reason.TheVariants as reasons
 use Rattle.job_model.specs.declared.acts.JobAct.{JobAct}
-use Rattle.job_model.specs.declared.acts.JobAct.TheVariants.{Attach, Start, EndBody, Cancel, Finish, Gone}
+use Rattle.job_model.specs.declared.acts.JobAct.TheVariants.{EndBody, Finish, Gone}
 use Rattle.job_model.specs.declared.acts.JobEntry.{JobEntry}
 use Rattle.job_model.specs.Effects.{after, with_child, state_of_end}
-use Rattle.job_model.specs.Trees.{Job, Tree, root, parent_of, is_done, is_ended, is_cancellable, is_none_left, is_among, living}
+use Rattle.job_model.specs.Trees.{Job, Tree, root, parent_of, is_done, is_ended, is_none_left, is_among, living}
 use Rattle.job_model.specs.Acts.{finishes}
 use Rattle.job_model.specs.Laws.{has_ended}
 use Rattle.job_model.specs.Answers.{IsNotDone}
@@ -21,7 +19,7 @@ use Rattle.job_model.specs.Histories.{replay, Legal}
 use Rattle.job_model.proofs.Histories.{Legal-prefix}
 use Rattle.job_model.proofs.Steps.{RowStep, row_step}
 use Rattle.job_model.proofs.Own.{prefix_keeps}
-use Rattle.job_model.proofs.Lasting.{parent_lasts}
+use Rattle.job_model.proofs.Lasting.{parent_lasts, end_ends}
 use Rattle.job_model.proofs.Families.{replay_families}
 use Rattle.job_model.proofs.RowMarks.{finish_mark}
 use Rattle.job_model.proofs.Rows.{same}
@@ -37,6 +35,9 @@ use Rattle.script_meaning.proofs.Payments.{AllPaid}
 use Rattle.script_meaning.proofs.JobPieces.{job_told, act_in_item, JobPiece, quiet_closes}
 use Rattle.script_meaning.proofs.JobStories.{JobHolds}
 use Rattle.script_meaning.proofs.JobDebts.{Parents, parents_in, AllKnown, known_left, known_right, AreCancels, cancels_then, JobPaid, JobDebt, paid_then, paid_quiet, paid_cancels, nobody_owes, needs_there}
+use Rattle.channel_model.proofs.Plain.{and_false}
+use Rattle.job_model.proofs.Sound.{not_ended}
+use Rattle.job_model.proofs.Ends.{ended_is}
 
 -- ---- words of both
 
@@ -56,12 +57,9 @@ abbrev pub owes_end : ℕ → Tree → Bool
 owes_end r tree = is_done (tree r) && not (has_ended (tree r))
 
 abbrev pub RaisesEnd : Parents → ℕ → JobAct → Type 0
-RaisesEnd parents r (Attach p q kind tag cancelled) = ⊥
-RaisesEnd parents r (Start q) = ⊥
 RaisesEnd parents r (EndBody q v) = q ≡ r
-RaisesEnd parents r (Cancel q reason) = ⊥
-RaisesEnd parents r (Finish q end) = ⊥
 RaisesEnd parents r (Gone c) = parents c ≡ Some r
+RaisesEnd parents r other = ⊥
 
 abbrev pub IsFinishOf : ℕ → JobAct → Type 0
 IsFinishOf r (Finish q end) = q ≡ r
@@ -103,21 +101,16 @@ chain_pays p jobs k r row g h (Chain.goes_up _ parent end closes rest _ n c up e
       paid_then k (owes_end r) (RaisesEnd (parents_in jobs) r) (TakesEnd r) closes _
           (paid_quiet k (owes_end r) (RaisesEnd (parents_in jobs) r) (TakesEnd r) closes (quiet_closes _ _ closes c)) (
             λ x. exists_later (TakesEnd r (Gone row)) _ rest (subst (λ q. Exists (TakesEnd q (Gone row)) rest)
-                (the_one parent r (sym is ∙ x))
+                (same_Some parent r (sym is ∙ x))
                 (chain_begins p parent rest (Gone row) up)),
             (tt, chain_pays p jobs k r parent rest behind.1.1 up),
           ),
     )
-  where
-    the_one : (a b : ℕ) → Some a ≡ Some b → a ≡ b
-    the_one a b q = cc
 
 end_pieces_pay : (p : Program) (jobs : List JobEntry) (r k : ℕ) (g : List Told) → AllKnown (parents_in jobs) g → JobPiece p k g
     → EndPaid jobs k r g
 unfolding AllPaid AllKnown
 end_pieces_pay p jobs r k _ h (JobPiece.quiet g q) = paid_quiet k (owes_end r) (RaisesEnd (parents_in jobs) r) (TakesEnd r) g q
-end_pieces_pay p jobs r k _ h (JobPiece.attaches parent row kind tag now) = (λ x. absurd x, tt)
-end_pieces_pay p jobs r k _ h (JobPiece.starts row) = (λ x. absurd x, tt)
 end_pieces_pay p jobs r k g h (JobPiece.passes row reason newly _ m o s) =
     let known = known_right (parents_in jobs) (map did (own_cancel newly row reason ++ s.below)) (on_jobs (PassedBelow row s.below) ∷ [])
     (subst (AllKnown (parents_in jobs)) s.all h) in
@@ -141,6 +134,7 @@ end_pieces_pay p jobs r k _ h (JobPiece.ends_body row v chain c) = (
   λ (x : row ≡ r). subst (λ q. Exists (TakesEnd q (EndBody row v)) chain) x (chain_begins p row chain (EndBody row v) c),
   chain_pays p jobs k r row chain h.1 c,
 )
+end_pieces_pay p jobs r k _ h other = (λ x. absurd x, tt)
 
 -- which act raises it
 
@@ -154,10 +148,6 @@ fewer_left f (d ∷ cs) c h = at (λ g. fewer_left f cs c g) (f d) h
     at g true h = cc
     at g false h = g h
 
-pub contrary : (b : Bool) → b ≡ true → b ≡ false → ⊥
-contrary true p q = cc
-contrary false p q = cc
-
 all_true : (a b c : Bool) → a ≡ true → b ≡ true → c ≡ false → ((a && b) && not c) ≡ true
 all_true true true false p q r = refl
 all_true false b c p q r = cc
@@ -170,18 +160,6 @@ three true true true h = cc
 three true false c h = cc
 three false b c h = cc
 
-not_cancelled : (s : JobState) → is_cancellable s ≡ true → is_ended s ≡ false
-not_cancelled New h = refl
-not_cancelled Active h = refl
-not_cancelled Completing h = refl
-not_cancelled Cancelling h = cc
-not_cancelled Cancelled h = cc
-not_cancelled Completed h = cc
-
-finished_state : (end : End) → is_ended (state_of_end end) ≡ true
-finished_state (ends_as.Completed v) = refl
-finished_state (ends_as.Cancelled c) = refl
-
 abbrev pub owes_row : Option Job → Bool
 owes_row x = is_done x && not (has_ended x)
 
@@ -191,36 +169,28 @@ end_raised : (shape : _) (jobs before : List JobEntry) (who r : ℕ) (act : JobA
 end_raised shape jobs before who r _ _ _ (RowStep.is_attached p kind tag cancelled m i) f t k = cc
 end_raised shape jobs before who r _ _ _ (RowStep.has_child c kind tag cancelled j none m) f t k =
     let q = three j.body_ended (is_none_left (living (with_child c j))) (is_ended j.state) t in
-    absurd (contrary (owes_row (Some j)) (all_true j.body_ended (is_none_left (living j)) (is_ended j.state) q.0
-    (fewer_left (λ d. not (is_among d j.told)) j.children c q.1) q.2) f)
+    absurd (both_ways (owes_row (Some j)) f (all_true j.body_ended (is_none_left (living j)) (is_ended j.state) q.0
+    (fewer_left (λ d. not (is_among d j.told)) j.children c q.1) q.2))
 end_raised shape jobs before who r _ _ _ (RowStep.is_started j n) f t k =
     let q = three j.body_ended (is_none_left (living j)) false t in
-    absurd (contrary (owes_row (Some j)) (all_true j.body_ended (is_none_left (living j)) (is_ended j.state) q.0 q.1 (ap is_ended n)) f)
+    absurd (both_ways (owes_row (Some j)) f (all_true j.body_ended (is_none_left (living j)) (is_ended j.state) q.0 q.1 (ap is_ended n)))
 end_raised shape jobs before who r _ _ _ (RowStep.body_ends v j m) f t k = refl
 end_raised shape jobs before who r _ _ _ (RowStep.is_cancelled reason j m o) f t k =
     let q = three j.body_ended (is_none_left (living j)) false t in
-    absurd (contrary (owes_row (Some j)) (all_true j.body_ended (is_none_left (living j)) (is_ended j.state) q.0 q.1
-    (not_cancelled j.state m)) f)
+    absurd (both_ways (owes_row (Some j)) f (all_true j.body_ended (is_none_left (living j)) (is_ended j.state) q.0 q.1
+    (not_ended j.state m)))
 end_raised shape jobs before who r _ _ _ (RowStep.ends end j m) f t k =
     let q = three j.body_ended (is_none_left (living j)) (is_ended (state_of_end end)) t in
-    absurd (contrary (is_ended (state_of_end end)) (finished_state end) q.2)
+    absurd (both_ways (is_ended (state_of_end end)) q.2 (end_ends end))
 end_raised shape jobs before who r _ _ _ (RowStep.is_told c j m p) f t k = k c p
-end_raised shape jobs before who r _ _ _ (RowStep.stays act x a b c d e) f t k = absurd (contrary (owes_row x) t f)
-
-pub has_ended_by : (o : Option Job) → IsEnded o → has_ended o ≡ true
-has_ended_by None h = absurd h
-has_ended_by (Some j) h = h
+end_raised shape jobs before who r _ _ _ (RowStep.stays act x a b c d e) f t k = absurd (both_ways (owes_row x) f t)
 
 pub ended_by : (o : Option Job) → has_ended o ≡ true → IsEnded o
 ended_by None e = cc
 ended_by (Some j) e = e
 
-pub not_owed : (a b : Bool) → b ≡ true → (a && not b) ≡ false
-not_owed true b h = ap not h
-not_owed false b h = refl
-
 no_end_owed : (o : Option Job) → IsEnded o ⊎ IsNotDone o → owes_row o ≡ false
-no_end_owed o (inl e) = not_owed (is_done o) (has_ended o) (has_ended_by o e)
+no_end_owed o (inl e) = and_false (is_done o) (has_ended o) (ended_is o e)
 no_end_owed None (inr n) = absurd n
 no_end_owed (Some j) (inr n) = ap (λ b. b && not (is_ended j.state)) n
 
@@ -244,7 +214,7 @@ end_by_act jobs shape l r (Finish q end) f before rest e parts is =
     finish_mark.sets shape (replay before) e.who e.act r
     (replay_families shape before (Legal-prefix shape before (e ∷ rest) (subst (Legal shape) parts l))) needs (ap (finishes r) is
     ∙ subst (λ u. (r == u) ≡ true) (sym f) (same r)) in
-    not_owed (is_done (after (replay before) e.who e.act r)) (has_ended (after (replay before) e.who e.act r)) ended
+    and_false (is_done (after (replay before) e.who e.act r)) (has_ended (after (replay before) e.who e.act r)) ended
 end_by_act jobs shape l r other f before rest e parts is = absurd f
 
 act_of_told : (r : ℕ) (a : JobAct) (t : Told) (b : JobAct) → job_told t ≡ Some b → TakesEnd r a t → IsFinishOf r b

@@ -87,13 +87,6 @@ attached_then r xs ys =
     ∙ ap (list_any (attaches r)) (job_acts_in-append (items_in xs) (items_in ys))
     ∙ list_any-append (attaches r) (job_acts_in (items_in xs)) (job_acts_in (items_in ys))
 
-pub either : (a b : Bool) → (a || b) ≡ true → (a ≡ true) ⊎ (b ≡ true)
-either true b e = inl refl
-either false b e = inr e
-
-pub never : {A : Type 0} → false ≡ true → A
-never e = absurd (let no_way : ⊥ = cc in no_way)
-
 pub launched_attached : (r : ℕ) (acts : List JobAct) → list_any (launches_row r) acts ≡ true → list_any (attaches r) acts ≡ true
 launched_attached r [] e = cc
 launched_attached r (Attach p q kind tag cancelled ∷ acts) e = by_tests (r == q) (not kind.scoped) e (launched_attached r acts)
@@ -175,7 +168,7 @@ pub data MoveAsks (p : Program) (k : ℕ) (x : Config) (group : List Told) (y : 
       → MoveAsks p k x group y
 
 -- a line names a declared channel
-declared : (p : Program) (k i : ℕ) (l : Instruction) → IsProgram p → slice_get (code_of p k) i ≡ Some l
+pub declared : (p : Program) (k i : ℕ) (l : Instruction) → IsProgram p → slice_get (code_of p k) i ≡ Some l
     → names_channel (length p.channels) l ≡ true
 declared p k i l ok at = test_at (names_channel (length p.channels)) (code_of p k) i l (channels_known p k ok) at
 
@@ -204,38 +197,21 @@ line_asks p k x _ _ _ y ok at (LineCalls.await job row _ _ n (StartsAndReceives.
 pub move_asks : (p : Program) (k : ℕ) (x : Config) (group : List Told) (y : Config) → IsProgram p → Move p k x group y
     → MoveAsks p k x group y
 unfolding items_in
-move_asks p k _ _ _ ok (Move.runs x s) = MoveAsks.none refl
-move_asks p k _ _ _ ok (Move.never_runs x s) = MoveAsks.none refl
 move_asks p k _ _ _ ok (Move.calls x y i group a at c f) = line_asks p k x i group a y ok at c f
-move_asks p k _ _ _ ok (Move.resumes x y w i outcome a s at m f) = MoveAsks.none refl
-move_asks p k _ _ _ ok (Move.cancelled x w s) = MoveAsks.none refl
 move_asks p k _ _ _ ok (Move.gives_up x w group s g) = MoveAsks.none (gives_up_none (base_of p) w group g)
-move_asks p k _ _ _ ok (Move.sees_job x y job row end s at n f) = MoveAsks.none refl
 move_asks p k _ _ _ ok (Move.closes x c group at g) = MoveAsks.none (closes_none (base_of p) c 0 group g)
 move_asks p k _ _ _ ok (Move.cancels_channel x c group at g) = MoveAsks.none (cancels_channel_none (base_of p) c group g)
-move_asks p k _ _ _ ok (Move.yields x at) = MoveAsks.none refl
-move_asks p k _ _ _ ok (Move.stops_at_yield x at) = MoveAsks.none refl
-move_asks p k _ _ _ ok (Move.stops_at_join x job at) = MoveAsks.none refl
-move_asks p k _ _ _ ok (Move.launches x block how job now at) = MoveAsks.none refl
 move_asks p k _ _ _ ok (Move.launch_refused x block how job group at g) =
     MoveAsks.none (refusal_none (base_of p) (innermost k x) false group g)
-move_asks p k _ _ _ ok (Move.enters x supervisor row now at) = MoveAsks.none refl
 move_asks p k _ _ _ ok (Move.enter_refused x supervisor group at g) = MoveAsks.none (refusal_none (base_of p) (innermost k x) true group g)
 move_asks p k _ _ _ ok (Move.starts x job row group at n g) = MoveAsks.none (starts_none (base_of p) row group g)
 move_asks p k _ _ _ ok (Move.cancels x job row newly group at n g) = MoveAsks.none (passes_none (base_of p) row _ newly group g)
-move_asks p k _ _ _ ok (Move.fails x v at) = MoveAsks.none refl
-move_asks p k _ _ _ ok (Move.results x o at) = MoveAsks.none refl
-move_asks p k _ _ _ ok (Move.repeats x n at) = MoveAsks.none refl
-move_asks p k _ _ _ ok (Move.turns_again x head n es at is) = MoveAsks.none refl
-move_asks p k _ _ _ ok (Move.turns_no_more x head es at is) = MoveAsks.none refl
-move_asks p k _ _ _ ok (Move.receives_again x head es at is) = MoveAsks.none refl
 move_asks p k _ _ _ ok (Move.ends_scope x y s end call all a at is g c f parts) =
     MoveAsks.asks s.row end call a (ends_none (base_of p) (base_of p) s.row 0 end g) parts c
     (Receives.at_end s refl (ap scope_in is) f (inl at.stage))
-move_asks p k _ _ _ ok (Move.scope_ended x w n v s) = MoveAsks.none refl
-move_asks p k _ _ _ ok (Move.sees_scope x y s end at is f) = MoveAsks.none refl
 move_asks p k _ _ _ ok (Move.breaks_scope x y s failure break call all a at is g c f parts) =
     MoveAsks.asks s.row break call a (breaks_off_none (base_of p) (base_of p) k s.row failure break g) parts c
     (Receives.at_end s refl is f (inr (failure, at)))
 move_asks p k _ _ _ ok (Move.breaks x failure group s is g) = MoveAsks.none (breaks_off_none (base_of p) (base_of p) k k failure group g)
 move_asks p k _ _ _ ok (Move.ends x group s is g) = MoveAsks.none (ends_none (base_of p) (base_of p) k x.result group g)
+move_asks p k _ _ _ ok other = MoveAsks.none refl

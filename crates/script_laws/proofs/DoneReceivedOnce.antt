@@ -3,8 +3,9 @@
 use Rattle.std.proofs.lemmas.List.{append-nil}
 use Rattle.std.specs.Prelude.{◌≡◌, ℕ, ◌+◌, ◌<◌, ◌≤◌, ◌==◌, nat_le, ◌⊎◌, Bool, true, false, ◌||◌, ◌&&◌, List, [], ◌∷◌, ◌++◌, Option, Some, None, slice_get, refl}
 use Rattle.std.proofs.Common.{sym, ap, ◌∙◌, subst, inl, ⊎_elim, append_assoc, arith}
-use Rattle.std.proofs.lemmas.Bool.{eqb-true, eq-eqb, or_left, or_right, or_parts}
+use Rattle.std.proofs.lemmas.Bool.{eqb-true, eq-eqb, or_left, or_right, or_parts, or_cases, false≢true}
 use Rattle.std.proofs.lemmas.Bool.Decides.{nat_tests}
+use Rattle.std.proofs.lemmas.Option.{same_Some}
 use Rattle.co_base.specs.declared.names.WaitId.{WaitId}
 use Rattle.channel_model.specs.declared.acts.Act.TheVariants.{Settle}
 use Rattle.channel_model.specs.declared.acts.Settled.{Settled}
@@ -34,7 +35,7 @@ use Rattle.script_meaning.proofs.CompletedJobs.{EndsSo, SeenAs, ends_left, ends_
 use Rattle.script_meaning.proofs.NamedRows.{none_there, named_or_old}
 use Rattle.script_meaning.proofs.TagsGiven.{launched_in, launched_then}
 use Rattle.script_laws.proofs.DoneAsked.{admits_none, note_asks, asks_in, refusal_none}
-use Rattle.script_laws.proofs.DonePlacesAsked.{placed_in, closed_in, entered_in, attached_in, placed_then, closed_then, entered_then, attached_then, either, never, launched_attached, entered_attached, not_asked, is_join, Receives, MoveAsks, move_asks}
+use Rattle.script_laws.proofs.DonePlacesAsked.{placed_in, closed_in, entered_in, attached_in, placed_then, closed_then, entered_then, attached_then, launched_attached, entered_attached, not_asked, is_join, Receives, MoveAsks, move_asks}
 
 -- ---- how a move goes on from a wait, and where it unwinds
 
@@ -69,9 +70,8 @@ same_scope entered s t e f = let both_some : Some s ≡ Some t = sym e ∙ f in 
 
 broken_at : (k : ℕ) (done : ℕ → Bool) (x : Config) (s : InScope) (a : Answer) (y : Config) → scope_in x.entered ≡ Some s
     → done s.row ≡ false → AtScopeEnd k x s a y → IsUnwound done y.stage y.entered
-broken_at k done x s _ _ is d (AtScopeEnd.waits w) = λ t e. subst (λ (u : InScope). done u.row ≡ false) (same_scope x.entered s t is e) d
-broken_at k done x s _ _ is d (AtScopeEnd.closed v) = λ t e. subst (λ (u : InScope). done u.row ≡ false) (same_scope x.entered s t is e) d
 broken_at k done x s _ _ is d AtScopeEnd.no_place = tt
+broken_at k done x s _ _ is d other = λ t e. subst (λ (u : InScope). done u.row ≡ false) (same_scope x.entered s t is e) d
 
 move_kind : (p : Program) (k : ℕ) (done : ℕ → Bool) (x : Config) (group : List Told) (y : Config) → EndsSo done group → Move p k x group y
     → MoveKind p k done x group y
@@ -122,12 +122,12 @@ data OnceAsked (p : Program) (k : ℕ) (done : ℕ → Bool) (told : List Told) 
   unwound : IsUnwound done x.stage x.entered → launched_in row told ≡ true → OnceAsked p k done told x row
 
 got_no_join : (p : Program) (k : ℕ) (x : Config) (i : Instruction) (v : ℕ) (y : Config) → is_join i ≡ true → After p k x i (Got v) y → ⊥
-got_no_join p k x _ _ _ j (After.got c v) = never j
-got_no_join p k x _ _ _ j other = never j
+got_no_join p k x _ _ _ j (After.got c v) = absurd (false≢true j)
+got_no_join p k x _ _ _ j other = absurd (false≢true j)
 
 done_no_join : (p : Program) (k : ℕ) (x : Config) (i : Instruction) (y : Config) → is_join i ≡ true → After p k x i Done y → ⊥
-done_no_join p k x _ _ j (After.sent c o) = never j
-done_no_join p k x _ _ j other = never j
+done_no_join p k x _ _ j (After.sent c o) = absurd (false≢true j)
+done_no_join p k x _ _ j other = absurd (false≢true j)
 
 -- a wait of a join ends as closed
 join_ends : (p : Program) (k : ℕ) (x : Config) (i : Instruction) (outcome : Settled) (a : Answer) (y : Config) → is_join i ≡ true
@@ -155,7 +155,7 @@ same_line : (p : Program) (k : ℕ) (x : Config) (i l : Instruction) → LineIs 
 same_line p k x i l e f = let both_some : Some i ≡ Some l = sym e ∙ f in cc
 
 not_plain : {A : Type 0} (x : Config) (stage : Stage) → x.stage ≡ stage → is_plain stage ≡ false → is_plain x.stage ≡ true → A
-not_plain x stage e f g = never (sym (ap is_plain e ∙ f) ∙ g)
+not_plain x stage e f g = absurd (false≢true (sym (ap is_plain e ∙ f) ∙ g))
 
 closed_more : (c : ℕ) (told group : List Told) → closed_in c group ≡ true → closed_in c (told ++ group) ≡ true
 closed_more c told group e = closed_then c told group ∙ or_right (closed_in c told) (closed_in c group) e
@@ -177,9 +177,8 @@ unwound_at done x stage e u = subst (λ s. IsUnwound done s x.entered) e u
 
 still_unwound : (p : Program) (k : ℕ) (done : ℕ → Bool) (x : Config) (s : InScope) (end : End) (y : Config) → done s.row ≡ false
     → SeenAs done s.row end → AfterScope p k x s end y → IsUnwound done y.stage y.entered
-still_unwound p k done x s _ _ d seen (AfterScope.completed v e c) = never (sym d ∙ seen)
-still_unwound p k done x s _ _ d seen AfterScope.cancelled = tt
-still_unwound p k done x s _ _ d seen (AfterScope.failed f) = tt
+still_unwound p k done x s _ _ d seen (AfterScope.completed v e c) = absurd (false≢true (sym d ∙ seen))
+still_unwound p k done x s _ _ d seen other = tt
 
 -- after one move more
 once_step : (p : Program) (k : ℕ) (done : ℕ → Bool) (told : List Told) (x : Config) (group : List Told) (y : Config) (row : ℕ)
@@ -204,7 +203,8 @@ once_step p k done told x group y row (OnceAsked.waits w l e c at j h) (MoveKind
     let same = same_wait x w u e s in
     let line_is = same_line p k x l i at is in
     let ends = join_ends p k x i outcome a y (ap is_join (sym line_is) ∙ j) m f in
-    let told_is : group ≡ on_channels (IsResolved u) ∷ on_jobs (MayRun (innermost k x)) ∷ made (Settle u (settled.Closed ends.0 ends.1)) ∷ []
+    let told_is : group ≡ on_channels (IsResolved u) ∷ on_jobs (MayRun (innermost k x)) ∷ made (Settle u (settled.Closed ends.0 ends.1)) ∷
+    []
     = g ∙ ap (λ o. on_channels (IsResolved u) ∷ on_jobs (MayRun (innermost k x)) ∷ made (Settle u o) ∷ []) ends.2 in
     OnceAsked.closed (closed_more (base_of p + row) told group (ap (closed_in (base_of p + row)) told_is
     ∙ tells_closed (base_of p + row) ends.0 ends.1 u (innermost k x) (ap (λ (z : WaitId). z.channel) (sym same) ∙ c)))
@@ -263,11 +263,8 @@ scope_entered told [] s e h = cc
 scope_entered told (in_repeat head left ∷ es) s e h = scope_entered told es s e h
 scope_entered told (in_each head ∷ es) s e h = scope_entered told es s e h
 scope_entered told (in_scope head row ∷ es) s e h =
-    let is : record { head = head; row = row; around = es } ≡ s = some_same e in
+    let is : record { head = head; row = row; around = es } ≡ s = same_Some _ _ e in
     (subst (λ (t : InScope). entered_in t.row told ≡ true) is h.0, subst (λ (t : InScope). AreEntered told t.around) is h.1)
-  where
-    some_same : {A : Type 0} {a b : A} → Some a ≡ Some b → a ≡ b
-    some_same e = cc
 
 -- nothing changes of them
 same_rows : (told group : List Told) (x y : Config) → y.rows ≡ x.rows → y.entered ≡ x.entered → Rows told x → Rows (told ++ group) y
@@ -328,9 +325,8 @@ after_rows p k told group x _ _ y h other = same_rows told group x _ refl refl h
 
 end_rows : (k : ℕ) (told group : List Told) (x : Config) (s : InScope) (a : Answer) (y : Config) → scope_in x.entered ≡ Some s → Rows told x
     → AtScopeEnd k x s a y → Rows (told ++ group) y
-end_rows k told group x s _ _ is h (AtScopeEnd.waits w) = same_rows told group x _ refl refl h
-end_rows k told group x s _ _ is h (AtScopeEnd.closed v) = same_rows told group x _ refl refl h
 end_rows k told group x s _ _ is h AtScopeEnd.no_place = rows_outside told group x _ s is refl refl h
+end_rows k told group x s _ _ is h other = same_rows told group x _ refl refl h
 
 past_rows : (p : Program) (k : ℕ) (told group : List Told) (x : Config) (s : InScope) (end : End) (y : Config) → scope_in x.entered ≡ Some s
     → Rows told x → AfterScope p k x s end y → Rows (told ++ group) y
@@ -426,9 +422,9 @@ call_placed : (base : ℕ) (c d : ℕ) (call : List Told) (a : Answer) → base 
     → (q : ℕ) × (a ≡ Waits (wait_at c q)) × (c ≡ d)
 unfolding items_in
 call_placed base c d _ _ le (PlainCall.at_once _ call a (AtOnce.takes _ v q admits h)) e =
-    never (sym (not_placed base d admits le (admits_none base c admits h)) ∙ e)
+    absurd (false≢true (sym (not_placed base d admits le (admits_none base c admits h)) ∙ e))
 call_placed base c d _ _ le (PlainCall.refused _ t a (Refused.receive _ u)) e = cc
-call_placed base c d _ _ le (PlainCall.no_place _ all is) e = never (sym (ap (placed_in d) is) ∙ e)
+call_placed base c d _ _ le (PlainCall.no_place _ all is) e = absurd (false≢true (sym (ap (placed_in d) is) ∙ e))
 call_placed base c d _ _ le (PlainCall.awaits _ q) e = (q, refl, eqb-true c d (only (c == d) e))
   where
     only : (b : Bool) → (b || false) ≡ true → b ≡ true
@@ -499,8 +495,7 @@ ItemAsked base seen (item.Job n) = Unit {0}
 
 abbrev pub ToldAsked : ℕ → List Told → Told → Type 0
 ToldAsked base seen (note i) = ItemAsked base seen i
-ToldAsked base seen (on_channels fact) = Unit {0}
-ToldAsked base seen (on_jobs fact) = Unit {0}
+ToldAsked base seen other = Unit {0}
 
 unfoldable pub AllAsked : ℕ → List Told → List Told → Type 0
 AllAsked base seen [] = Unit {0}
@@ -595,18 +590,22 @@ move_asked p k done told x group y apart h kind rows (MoveAsks.none e) = record 
 }
   where
     before : (row : ℕ) → placed_in (base_of p + row) (told ++ group) ≡ true → placed_in (base_of p + row) told ≡ true
-    before row f = ⊎_elim (λ g. g) (λ g. never (sym (not_placed (base_of p) (base_of p + row) group (above (base_of p) row) e) ∙ g))
-        (either (placed_in (base_of p + row) told) (placed_in (base_of p + row) group) (sym (placed_then (base_of p + row) told group) ∙ f))
+    before row f =
+        ⊎_elim (λ g. g) (λ g. absurd (false≢true (sym (not_placed (base_of p) (base_of p + row) group (above (base_of p) row) e) ∙ g)))
+        (or_cases (placed_in (base_of p + row) told) (placed_in (base_of p + row) group) (sym (placed_then (base_of p + row) told group)
+        ∙ f))
 move_asked p k done told x group y apart h kind rows (MoveAsks.asks r first call a quiet is c by) = record {
   rows = rows;
   once = λ row f. ⊎_elim
       (λ g. once_step p k done told x group y row (h.once row g) kind)
       (λ g. new_place row (there row g))
-      (either (placed_in (base_of p + row) told) (placed_in (base_of p + row) group) (sym (placed_then (base_of p + row) told group) ∙ f));
+      (or_cases (placed_in (base_of p + row) told) (placed_in (base_of p + row) group) (sym (placed_then (base_of p + row) told group)
+      ∙ f));
   own = λ row f. ⊎_elim
       (λ g. attached_more row told group (h.own row g))
       (λ g. attached_more row told group (subst (λ n. attached_in n told ≡ true) (same_row row (there row g).2) own_row))
-      (either (placed_in (base_of p + row) told) (placed_in (base_of p + row) group) (sym (placed_then (base_of p + row) told group) ∙ f));
+      (or_cases (placed_in (base_of p + row) told) (placed_in (base_of p + row) group) (sym (placed_then (base_of p + row) told group)
+      ∙ f));
   asked = asked_then (base_of p) [] told group h.asked (subst (AllAsked (base_of p) told) (sym is)
       (asked_then (base_of p) told first call (quiet_asked (base_of p) told first quiet)
       (call_asked (base_of p) r (told ++ first) call a (attached_more r told first own_row) closed_there c)));
@@ -621,9 +620,9 @@ move_asked p k done told x group y apart h kind rows (MoveAsks.asks r first call
     there : (row : ℕ) → placed_in (base_of p + row) group ≡ true → (q : ℕ) × (a ≡ Waits (wait_at (base_of p + r) q))
         × (base_of p + r ≡ base_of p + row)
     there row g = ⊎_elim
-        (λ f. never (sym (not_placed (base_of p) (base_of p + row) first (above (base_of p) row) quiet) ∙ f))
+        (λ f. absurd (false≢true (sym (not_placed (base_of p) (base_of p + row) first (above (base_of p) row) quiet) ∙ f)))
         (λ f. call_placed (base_of p) (base_of p + r) (base_of p + row) call a (above (base_of p) row) c f)
-        (either (placed_in (base_of p + row) first) (placed_in (base_of p + row) call)
+        (or_cases (placed_in (base_of p + row) first) (placed_in (base_of p + row) call)
         (sym (ap (placed_in (base_of p + row)) is ∙ placed_then (base_of p + row) first call) ∙ g))
 
     new_place : (row : ℕ) → (q : ℕ) × (a ≡ Waits (wait_at (base_of p + r) q)) × (base_of p + r ≡ base_of p + row)
@@ -634,8 +633,8 @@ move_asked p k done told x group y apart h kind rows (MoveAsks.asks r first call
     closed_there : placed_in (base_of p + r) (told ++ first) ≡ true → closed_in (base_of p + r) (told ++ first) ≡ true
     closed_there f =
         let was : placed_in (base_of p + r) told ≡ true = ⊎_elim (λ g. g)
-        (λ g. never (sym (not_placed (base_of p) (base_of p + r) first (above (base_of p) r) quiet) ∙ g))
-        (either (placed_in (base_of p + r) told) (placed_in (base_of p + r) first) (sym (placed_then (base_of p + r) told first) ∙ f))
+        (λ g. absurd (false≢true (sym (not_placed (base_of p) (base_of p + r) first (above (base_of p) r) quiet) ∙ g)))
+        (or_cases (placed_in (base_of p + r) told) (placed_in (base_of p + r) first) (sym (placed_then (base_of p + r) told first) ∙ f))
         in
         closed_then (base_of p + r) told first ∙ or_left (closed_in (base_of p + r) told) (closed_in (base_of p + r) first)
         (receives_closed p k done told x r a y apart h.rows (h.once r was) by)
@@ -667,8 +666,8 @@ begun_asks p k done group x b =
     let h = begins_ask p (base_of p) k group x b in
     record {
       rows = begun_rows group x h.1 h.2;
-      once = λ row f. never (sym (not_placed (base_of p) (base_of p + row) group (above (base_of p) row) h.0) ∙ f);
-      own = λ row f. never (sym (not_placed (base_of p) (base_of p + row) group (above (base_of p) row) h.0) ∙ f);
+      once = λ row f. absurd (false≢true (sym (not_placed (base_of p) (base_of p + row) group (above (base_of p) row) h.0) ∙ f));
+      own = λ row f. absurd (false≢true (sym (not_placed (base_of p) (base_of p + row) group (above (base_of p) row) h.0) ∙ f));
       asked = quiet_asked (base_of p) [] group h.0;
     }
 

@@ -1,16 +1,15 @@
 -- At the end of a run the parent of each ended Job was told.
 use Rattle.std.proofs.Common.{◌≡◌, ◌≢◌, ℕ, Bool, true, false, not, ◌&&◌, List, [], ◌∷◌, ◌++◌, refl, ap, sym, ◌∙◌, subst, Option, Some, None, if◌then◌else◌}
 use Rattle.std.specs.Prelude.{◌==◌, map}
+use Rattle.std.proofs.lemmas.Bool.{both_ways}
 use Rattle.channel_model.specs.declared.acts.Entry.{Entry}
-use Rattle.job_model.specs.declared.acts.JobState.{JobState}
-use Rattle.job_model.specs.declared.acts.JobState.TheVariants.{New, Active, Completing, Cancelling, Cancelled, Completed}
 use Rattle.job_model.specs.declared.acts.JobKind.{JobKind}
 use Rattle.job_model.specs.declared.acts.Reason.{Reason}
 use Rattle.job_model.specs.declared.acts.Reason.TheVariants as reasons
 use Rattle.job_model.specs.declared.acts.JobAct.{JobAct}
 use Rattle.job_model.specs.declared.acts.JobAct.TheVariants.{Attach, Start, EndBody, Cancel, Finish, Gone}
 use Rattle.job_model.specs.declared.acts.JobEntry.{JobEntry}
-use Rattle.job_model.specs.Effects.{after, first_state, state_after_body}
+use Rattle.job_model.specs.Effects.{after}
 use Rattle.job_model.specs.Trees.{Job, Tree, root, is_ended, was_told, parent_row}
 use Rattle.job_model.specs.Acts.{tells}
 use Rattle.job_model.specs.Laws.{has_ended}
@@ -23,7 +22,7 @@ use Rattle.job_model.proofs.RowMarks.{tell_mark}
 use Rattle.job_model.proofs.Rows.{same}
 use Rattle.job_model.specs.Cancels.{own_cancel}
 use Rattle.note_book.specs.declared.book.Item.{Item}
-use Rattle.call_meaning.specs.Telling.{Told, note, on_channels, on_jobs, PassedBelow, FailedUp, did}
+use Rattle.call_meaning.specs.Telling.{Told, note, on_jobs, PassedBelow, FailedUp, did}
 use Rattle.call_meaning.specs.JobCalls.{Chain}
 use Rattle.script_grammar.specs.Programs.{Program}
 use Rattle.script_meaning.specs.Shapes.{job_shape, base_of}
@@ -32,7 +31,9 @@ use Rattle.script_meaning.proofs.Debts.{exists_first, exists_right}
 use Rattle.script_meaning.proofs.Payments.{AllPaid}
 use Rattle.script_meaning.proofs.JobPieces.{job_told, act_in_item, JobPiece, quiet_closes}
 use Rattle.script_meaning.proofs.JobDebts.{parents_in, AllKnown, known_left, known_right, cancels_then, JobPaid, JobDebt, paid_then, paid_quiet, paid_cancels, nobody_owes, needs_there}
-use Rattle.script_laws.proofs.DoneJobsEnded.{ActPasses, own_is_cancel, contrary, not_owed, has_ended_by, other_part}
+use Rattle.script_laws.proofs.DoneJobsEnded.{ActPasses, own_is_cancel, other_part}
+use Rattle.channel_model.proofs.Plain.{and_false}
+use Rattle.job_model.proofs.Ends.{ended_before_body, not_first, ended_is}
 
 -- where only ends of bodies and what follows them raise a debt, only they have to pay
 pub calm_pieces : (p : Program) (jobs : List JobEntry) (k : ℕ) (owes : Tree → Bool) (Raises : JobAct → Type 0) (Takes : JobAct → Told
@@ -71,12 +72,8 @@ abbrev pub owes_word : ℕ → Tree → Bool
 owes_word r tree = has_ended (tree r) && not (was_told r (parent_row tree r))
 
 abbrev pub RaisesWord : ℕ → JobAct → Type 0
-RaisesWord r (Attach p q kind tag cancelled) = ⊥
-RaisesWord r (Start q) = ⊥
-RaisesWord r (EndBody q v) = ⊥
-RaisesWord r (Cancel q reason) = ⊥
 RaisesWord r (Finish q end) = q ≡ r
-RaisesWord r (Gone c) = ⊥
+RaisesWord r other = ⊥
 
 abbrev pub IsGoneOf : ℕ → JobAct → Type 0
 IsGoneOf r (Gone q) = q ≡ r
@@ -84,8 +81,7 @@ IsGoneOf r other = ⊥
 
 abbrev pub TakesWord : ℕ → JobAct → Told → Type 0
 TakesWord r a (note i) = ActPasses (IsGoneOf r) (act_in_item i)
-TakesWord r a (on_channels fact) = ⊥
-TakesWord r a (on_jobs fact) = ⊥
+TakesWord r a other = ⊥
 
 abbrev pub WordPaid : ℕ → ℕ → List Told → Type 0
 WordPaid k r told = JobPaid k (owes_word r) (RaisesWord r) (TakesWord r) told
@@ -112,56 +108,40 @@ body_tells p k r row v chain n c = (λ x. absurd x, chain_tells p k r row chain 
 
 -- which act raises it
 
-not_first : (cancelled lazy : Bool) → is_ended (first_state cancelled lazy) ≡ true → ⊥
-not_first true lazy e = cc
-not_first false true e = cc
-not_first false false e = cc
-
-ended_before_body : (s : JobState) → is_ended (state_after_body s) ≡ true → is_ended s ≡ true
-ended_before_body New e = cc
-ended_before_body Active e = cc
-ended_before_body Completing e = cc
-ended_before_body Cancelling e = cc
-ended_before_body Cancelled e = refl
-ended_before_body Completed e = refl
-
 word_raised : (shape : _) (tree : Tree) (who r : ℕ) (act : JobAct) (x y : Option Job) → RowStep shape tree who r act x y
     → has_ended x ≡ false → has_ended y ≡ true → RaisesWord r act
 word_raised shape tree who r _ _ _ (RowStep.is_attached p kind tag cancelled m i) f t = absurd (not_first cancelled kind.lazy t)
-word_raised shape tree who r _ _ _ (RowStep.has_child c kind tag cancelled j none m) f t = absurd (contrary (is_ended j.state) t f)
-word_raised shape tree who r _ _ _ (RowStep.is_started j n) f t = cc
-word_raised shape tree who r _ _ _ (RowStep.body_ends v j m) f t = absurd (contrary (is_ended j.state) (ended_before_body j.state t) f)
-word_raised shape tree who r _ _ _ (RowStep.is_cancelled reason j m o) f t = cc
+word_raised shape tree who r _ _ _ (RowStep.has_child c kind tag cancelled j none m) f t = absurd (both_ways (is_ended j.state) f t)
+word_raised shape tree who r _ _ _ (RowStep.body_ends v j m) f t = absurd (both_ways (is_ended j.state) f (ended_before_body j.state t))
 word_raised shape tree who r _ _ _ (RowStep.ends end j m) f t = refl
-word_raised shape tree who r _ _ _ (RowStep.is_told c j m p) f t = absurd (contrary (is_ended j.state) t f)
-word_raised shape tree who r _ _ _ (RowStep.stays act x a b c d e) f t = absurd (contrary (has_ended x) t f)
+word_raised shape tree who r _ _ _ (RowStep.is_told c j m p) f t = absurd (both_ways (is_ended j.state) f t)
+word_raised shape tree who r _ _ _ (RowStep.stays act x a b c d e) f t = absurd (both_ways (has_ended x) f t)
+word_raised shape tree who r _ _ _ other f t = cc
 
-parts_of : (a b : Bool) → (a && not b) ≡ true → (a ≡ true) × (b ≡ false)
+pub parts_of : (a b : Bool) → (a && not b) ≡ true → (a ≡ true) × (b ≡ false)
 parts_of true false h = (refl, refl)
 parts_of true true h = cc
 parts_of false b h = cc
 
-not_before : (a b : Bool) → (a && not b) ≡ false → (b ≡ true → ⊥) → a ≡ false
+pub not_before : (a b : Bool) → (a && not b) ≡ false → (b ≡ true → ⊥) → a ≡ false
 not_before true true h n = absurd (n refl)
 not_before true false h n = cc
 not_before false b h n = refl
 
 word_by_told : (r : ℕ) (a : JobAct) (t : Told) (at : List JobEntry) → job_told t ≡ None → TakesWord r a t → owes_word r (replay at) ≡ false
 word_by_told r a (note i) at m t = absurd (subst (ActPasses (IsGoneOf r)) m t)
-word_by_told r a (on_channels fact) at m t = absurd t
-word_by_told r a (on_jobs fact) at m t = absurd t
+word_by_told r a other at m t = absurd t
 
 act_of_told : (r : ℕ) (a : JobAct) (t : Told) (b : JobAct) → job_told t ≡ Some b → TakesWord r a t → IsGoneOf r b
 act_of_told r a (note i) b m t = subst (ActPasses (IsGoneOf r)) m t
-act_of_told r a (on_channels fact) b m t = absurd t
-act_of_told r a (on_jobs fact) b m t = absurd t
+act_of_told r a other b m t = absurd t
 
 word_by_act : (jobs : List JobEntry) (shape : _) → Legal shape jobs → (r : ℕ) (b : JobAct) → IsGoneOf r b
     → (before rest : List JobEntry) (e : JobEntry) → jobs ≡ before ++ e ∷ rest → e.act ≡ b
     → owes_word r (after (replay before) e.who e.act) ≡ false
 word_by_act jobs shape l r (Gone q) f before rest e parts is =
     let needs = needs_there shape jobs before e rest l parts in
-    not_owed (has_ended (after (replay before) e.who e.act r)) _
+    and_false (has_ended (after (replay before) e.who e.act r)) _
     (tell_mark.sets shape (replay before) e.who e.act r (replay_families shape before
     (Legal-prefix shape before (e ∷ rest) (subst (Legal shape) parts l))) needs (ap (tells r) is
     ∙ subst (λ u. (r == u) ≡ true) (sym f) (same r)))
@@ -183,7 +163,7 @@ word_debt p jobs l r n = record {
       in
       word_raised (job_shape p) (replay before) e.who r e.act _ _ (row_step (job_shape p) (replay before) e.who e.act r needs)
       (not_before (has_ended (replay before r)) (was_told r (parent_row (replay before) r)) f
-      (λ w. contrary _ (tell_mark.kept (job_shape p) (replay before) e.who e.act r needs w) q.1)) q.0;
+      (λ w. both_ways _ q.1 (tell_mark.kept (job_shape p) (replay before) e.who e.act r needs w))) q.0;
   pieces = λ k g h s. calm_pieces p jobs k (owes_word r) (RaisesWord r) (TakesWord r) (λ a b c d e x. x) (λ a x. x) (λ a b x. x)
       (λ row v chain known c. body_tells p k r row v chain n c) g h s;
   by_fact = λ a t at more parts h m x. word_by_told r a t at m x;
@@ -195,4 +175,4 @@ pub told : (p : Program) (books : List (List Item)) (channels : List Entry) (job
     → r ≢ 0 → IsEnded (replay jobs r) → was_told r (parent_row (replay jobs) r) ≡ true
 unfolding word_debt
 told p books channels jobs of r n ended = other_part (has_ended (replay jobs r)) _
-    (nobody_owes p books channels jobs of (word_debt p jobs of.legal_jobs r n)) (has_ended_by (replay jobs r) ended)
+    (nobody_owes p books channels jobs of (word_debt p jobs of.legal_jobs r n)) (ended_is (replay jobs r) ended)

@@ -94,14 +94,12 @@ receive_waits _ c _ _ w (PlainCall.refused call told a h) e f = absurd (no_wait 
     no_wait : (call : Call) (told : Told) (a : Answer) → Refused call told a → a ≡ Waits w → ⊥
     no_wait _ _ _ (Refused.send d v u) f = cc
     no_wait _ _ _ (Refused.receive d u) f = cc
-receive_waits _ c _ _ w (PlainCall.no_place call all is) e f = cc
-receive_waits _ c _ _ w (PlainCall.offers d v q admits i) e f = cc
-receive_waits _ c _ _ w (PlainCall.offer_ends d v q admits settles all i j k) e f = cc
 receive_waits _ c _ _ w (PlainCall.awaits d q) e f =
     let same : d ≡ c = cc in
     let is : wait_at d q ≡ w = cc in
     subst (λ n. AwaitsOn (made (Await d q (wait_at d q) 0) ∷ []) w n) same
     (record { before = []; place = q; behind = []; told_is = refl; wait = sym is })
+receive_waits _ c _ _ w other e f = cc
 
 receive_closed : (call : Call) (c : ℕ) (group : List Told) (a : Answer) (v : ℕ) → PlainCall call group a → call ≡ receives c → a ≡ Closed v
     → ToldClosed group c
@@ -203,35 +201,23 @@ same_name x job row other a b = let both_ways : Some row ≡ Some other = sym a 
 -- the call of an await
 await_waits : (p : Program) (k : ℕ) (x : Config) (i : Instruction) (group : List Told) (a : Answer) (w : WaitId) (job row : ℕ)
     → LineCalls p k x i group a → i ≡ line.Await job → a ≡ Waits w → Names x job row → AwaitsOn group w (done_channel (base_of p) row)
-await_waits p k x _ _ _ w job row (LineCalls.send c o group a call) e f n = cc
-await_waits p k x _ _ _ w job row (LineCalls.receive c group a call) e f n = cc
-await_waits p k x _ _ _ w job row (LineCalls.each c group a call) e f n = cc
-await_waits p k x _ _ _ w job row (LineCalls.trysend c o group a call) e f n = cc
-await_waits p k x _ _ _ w job row (LineCalls.tryreceive c group a call) e f n = cc
-await_waits p k x _ _ _ w job row (LineCalls.select group a call) e f n = cc
-await_waits p k x _ _ _ w job row (LineCalls.join j r group a m call) e f n = cc
 await_waits p k x _ _ _ w job row (LineCalls.await j r group a m (StartsAndReceives.both starts told all b s call q)) e f n =
     let same : j ≡ job = (let both_ways : line.Await j ≡ line.Await job = e in cc) in
     let rows : r ≡ row = same_name x j r row m (ap (λ z. slice_get x.rows z) same ∙ n) in
     subst (λ z. AwaitsOn all w (done_channel (base_of p) z)) rows
     (awaits_behind starts told all w (done_channel (base_of p) r) q
     (receive_waits (receives (done_channel (base_of p) r)) (done_channel (base_of p) r) told b w call refl f))
+await_waits p k x _ _ _ w job row other e f n = cc
 
 await_closed : (p : Program) (k : ℕ) (x : Config) (i : Instruction) (group : List Told) (a : Answer) (v job row : ℕ)
     → LineCalls p k x i group a → i ≡ line.Await job → a ≡ Closed v → Names x job row → ToldClosed group (done_channel (base_of p) row)
-await_closed p k x _ _ _ v job row (LineCalls.send c o group a call) e f n = cc
-await_closed p k x _ _ _ v job row (LineCalls.receive c group a call) e f n = cc
-await_closed p k x _ _ _ v job row (LineCalls.each c group a call) e f n = cc
-await_closed p k x _ _ _ v job row (LineCalls.trysend c o group a call) e f n = cc
-await_closed p k x _ _ _ v job row (LineCalls.tryreceive c group a call) e f n = cc
-await_closed p k x _ _ _ v job row (LineCalls.select group a call) e f n = cc
-await_closed p k x _ _ _ v job row (LineCalls.join j r group a m call) e f n = cc
 await_closed p k x _ _ _ v job row (LineCalls.await j r group a m (StartsAndReceives.both starts told all b s call q)) e f n =
     let same : j ≡ job = (let both_ways : line.Await j ≡ line.Await job = e in cc) in
     let rows : r ≡ row = same_name x j r row m (ap (λ z. slice_get x.rows z) same ∙ n) in
     subst (λ z. ToldClosed all (done_channel (base_of p) z)) rows
     (closed_behind starts told all (done_channel (base_of p) r) q
     (receive_closed (receives (done_channel (base_of p) r)) (done_channel (base_of p) r) told b v call refl f))
+await_closed p k x _ _ _ v job row other e f n = cc
 
 same_line : (p : Program) (k : ℕ) (x : Config) (i j : Instruction) → LineIs p k x i → LineIs p k x j → i ≡ j
 same_line p k x i j a b = let both_ways : Some i ≡ Some j = sym a ∙ b in cc
@@ -245,21 +231,10 @@ after_sees : (p : Program) (k : ℕ) (all : List Told) (x : Config) (i : Instruc
 after_sees p k all x _ _ _ at w c r (After.waits i u) =
     waits_so p k all x u (λ job row l n. w u job row (same_line p k x i (line.Await job) at l) refl n)
 after_sees p k all x _ _ y at w c r (After.no_place i) = asks_none p k all y (Unwinding (Some k)) refl refl
-after_sees p k all x _ _ y at w c r (After.sent d o) = asks_none p k all y Running refl refl
-after_sees p k all x _ _ y at w c r (After.tried_to_send d o) = asks_none p k all y Running refl refl
-after_sees p k all x _ _ y at w c r (After.got d v) = asks_none p k all y Running refl refl
-after_sees p k all x _ _ y at w c r (After.no_more d v) = asks_none p k all y Running refl refl
-after_sees p k all x _ _ y at w c r (After.tried_and_got d v) = asks_none p k all y Running refl refl
-after_sees p k all x _ _ y at w c r (After.tried_to_get d) = asks_none p k all y Running refl refl
-after_sees p k all x _ _ y at w c r (After.got_one_more d v) = asks_none p k all y Running refl refl
-after_sees p k all x _ _ y at w c r (After.got_all d v e f) = asks_none p k all y Running refl refl
-after_sees p k all x _ _ y at w c r (After.chose_send e f) = asks_none p k all y Running refl refl
-after_sees p k all x _ _ y at w c r (After.chose_got e v f) = asks_none p k all y Running refl refl
-after_sees p k all x _ _ y at w c r (After.chose_closed e v f) = asks_none p k all y Running refl refl
 after_sees p k all x _ _ _ at w c r After.looks_again = asks_none p k all x Running (r refl) refl
-after_sees p k all x _ _ y at w c r (After.joined job v) = asks_none p k all y Running refl refl
 after_sees p k all x _ _ _ at w c r (After.awaited job v) =
     sees_job_so p k all x (λ j row l n. c v j row (same_line p k x (line.Await job) (line.Await j) at l) refl n)
+after_sees p k all x _ _ y at w c r other = asks_none p k all y Running refl refl
 
 no_wait_then : {A : Type 0} (outcome : Settled) (a : Answer) (w : WaitId) → Resumed outcome a → a ≡ Waits w → A
 no_wait_then _ _ w (Resumed.value n v) e = cc
@@ -269,9 +244,8 @@ no_wait_then _ _ w (Resumed.closed n v) e = cc
 -- a wait with this answer ended as closed
 closed_outcome : (outcome : Settled) (a : Answer) (v : ℕ) → Resumed outcome a → a ≡ Closed v → (n : ℕ)
     × ((u : ℕ) × (outcome ≡ settled.Closed n u))
-closed_outcome _ _ v (Resumed.value n u) e = cc
-closed_outcome _ _ v (Resumed.sent n) e = cc
 closed_outcome _ _ v (Resumed.closed n u) e = (n, (u, refl))
+closed_outcome _ _ v other e = cc
 
 no_select : {A : Type 0} (outcome : Settled) (a : Answer) → Resumed outcome a → a ≡ LooksAgain → A
 no_select _ _ (Resumed.value n v) e = cc
@@ -318,7 +292,6 @@ scope_end_sees p k told first group all most x s _ y e q r call AtScopeEnd.no_pl
 
 move_sees : (p : Program) (k : ℕ) (told : List Told) (x : Config) (group all : List Told) (y : Config) → all ≡ told ++ group
     → Sees p k told x → Move p k x group y → Sees p k all y
-move_sees p k told _ _ all y r h (Move.runs x s) = asks_none p k all y Running refl refl
 move_sees p k told _ _ all y r h (Move.never_runs x s) = asks_none p k all y (Unwinding None) refl refl
 move_sees p k told _ _ all _ r h (Move.calls x y i group a at c f) =
     after_sees p k all x i a y at.line_is
@@ -337,23 +310,11 @@ move_sees p k told _ _ all _ r h (Move.resumes x y w i outcome a s at m f) =
 move_sees p k told _ _ all y r h (Move.cancelled x w s) = asks_none p k all y (Unwinding None) refl refl
 move_sees p k told _ _ all y r h (Move.gives_up x w group s g) = asks_none p k all y (Unwinding None) refl refl
 move_sees p k told _ _ all _ r h (Move.sees_job x y job row end s at n f) = after_await_sees p k all x end y f
-move_sees p k told _ _ all y r h (Move.closes x c group at g) = asks_none p k all y Running refl refl
-move_sees p k told _ _ all y r h (Move.cancels_channel x c group at g) = asks_none p k all y Running refl refl
-move_sees p k told _ _ all y r h (Move.yields x at) = asks_none p k all y Running refl refl
 move_sees p k told _ _ all y r h (Move.stops_at_yield x at) = asks_none p k all y (Unwinding None) refl refl
 move_sees p k told _ _ all y r h (Move.stops_at_join x job at) = asks_none p k all y (Unwinding None) refl refl
-move_sees p k told _ _ all y r h (Move.launches x block how job now at) = asks_none p k all y Running refl refl
 move_sees p k told _ _ all y r h (Move.launch_refused x block how job group at g) = asks_none p k all y (Unwinding (Some k)) refl refl
-move_sees p k told _ _ all y r h (Move.enters x supervisor row now at) = asks_none p k all y Running refl refl
 move_sees p k told _ _ all y r h (Move.enter_refused x supervisor group at g) = asks_none p k all y (Unwinding (Some k)) refl refl
-move_sees p k told _ _ all y r h (Move.starts x job row group at n g) = asks_none p k all y Running refl refl
-move_sees p k told _ _ all y r h (Move.cancels x job row newly group at n g) = asks_none p k all y Running refl refl
 move_sees p k told _ _ all y r h (Move.fails x v at) = asks_none p k all y (Unwinding (Some k)) refl refl
-move_sees p k told _ _ all y r h (Move.results x o at) = asks_none p k all y Running refl refl
-move_sees p k told _ _ all y r h (Move.repeats x n at) = asks_none p k all y Running refl refl
-move_sees p k told _ _ all y r h (Move.turns_again x head n es at e) = asks_none p k all y Running refl refl
-move_sees p k told _ _ all y r h (Move.turns_no_more x head es at e) = asks_none p k all y Running refl refl
-move_sees p k told _ _ all y r h (Move.receives_again x head es at e) = asks_none p k all y Running refl refl
 move_sees p k told _ _ all _ r h (Move.ends_scope x y s end group told_there a at e b c f j) =
     scope_end_sees p k told end group told_there all x s a y (ap scope_in e) j r c f
 move_sees p k told _ _ all _ r h (Move.scope_ended x w n v s) =
@@ -363,6 +324,7 @@ move_sees p k told _ _ all _ r h (Move.breaks_scope x y s failure break group to
     scope_end_sees p k told break group told_there all x s a y e j r c f
 move_sees p k told _ _ all y r h (Move.breaks x failure group t e b) = asks_none p k all y Ended refl refl
 move_sees p k told _ _ all y r h (Move.ends x group t e b) = asks_none p k all y Ended refl refl
+move_sees p k told _ _ all y r h other = asks_none p k all y Running refl refl
 
 spawns_see : (p : Program) (told : List Told) (blocks : List ℕ) (x : Config) (group : List Told) (y : Config) → x.stage ≡ Fresh
     → Spawns p blocks x group y → Sees p 0 told y

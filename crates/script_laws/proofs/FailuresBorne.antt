@@ -1,7 +1,7 @@
 -- At the end of a run the parent of a Job that failed and is no scope is a supervisor, Cancelling or Cancelled.
 use Rattle.std.proofs.Common.{◌≡◌, ◌≢◌, ℕ, Bool, true, false, not, ◌&&◌, List, [], ◌∷◌, ◌++◌, refl, ap, sym, ◌∙◌, subst, inl, inr, ◌⊎◌, ⊎_elim, Option, Some, None, if◌then◌else◌}
 use Rattle.std.specs.Prelude.{◌==◌, ◌||◌, map, MatchBool}
-use Rattle.std.proofs.lemmas.Bool.{eqb-true}
+use Rattle.std.proofs.lemmas.Bool.{eqb-true, both_ways, or_right, and_parts, or_cases}
 use Rattle.channel_model.specs.declared.acts.Entry.{Entry}
 use Rattle.job_model.specs.declared.acts.Cause.{Cause}
 use Rattle.job_model.specs.declared.acts.Cause.TheVariants as because
@@ -27,7 +27,7 @@ use Rattle.job_model.proofs.Families.{replay_families}
 use Rattle.job_model.specs.Cancels.{own_cancel, IsCancelBelow, AreCancelsBelow}
 use Rattle.job_model.specs.Failures.{FailsUp, StaysBelow, IsScope, IsSupervisor}
 use Rattle.note_book.specs.declared.book.Item.{Item}
-use Rattle.call_meaning.specs.Telling.{Told, note, on_channels, on_jobs, JobFact, PassedBelow, FailedUp, did}
+use Rattle.call_meaning.specs.Telling.{Told, on_jobs, JobFact, PassedBelow, FailedUp, did}
 use Rattle.call_meaning.specs.Facts.{IsAlive}
 use Rattle.call_meaning.specs.JobCalls.{Chain}
 use Rattle.script_grammar.specs.Programs.{Program}
@@ -39,8 +39,9 @@ use Rattle.script_meaning.proofs.Payments.{AllPaid}
 use Rattle.script_meaning.proofs.JobPieces.{job_told, JobPiece, IsMild, IsOwnReason, quiet_closes}
 use Rattle.script_meaning.proofs.JobStories.{JobHolds}
 use Rattle.script_meaning.proofs.JobDebts.{parents_in, IsParent, IsUp, IsFor, AreFor, AllKnown, known_left, known_right, JobPaid, JobDebt, paid_then, paid_quiet, nobody_owes, needs_there}
-use Rattle.script_laws.proofs.DoneJobsEnded.{contrary}
 use Rattle.script_laws.proofs.BelowCancelled.{is_row, row_is, row_same, exists_parts, AllTakenBy, paid_by_last}
+use Rattle.script_laws.proofs.EndedJobsTold.{parts_of, not_before}
+use Rattle.script_laws.proofs.DoneJobsEnded.{other_part}
 
 abbrev pub failed_at : ℕ → Option Job → Bool
 failed_at q None = false
@@ -55,10 +56,9 @@ abbrev pub owes_failure : ℕ → ℕ → Tree → Bool
 owes_failure r q tree = failed_at q (tree r) && not (bears (tree q))
 
 abbrev pub RaisesByReason : ℕ → ℕ → ℕ → Reason → Type 0
-RaisesByReason r k q reasons.Request = ⊥
-RaisesByReason r k q reasons.Parent = ⊥
 RaisesByReason r k q (reasons.Child c) = q ≡ r
 RaisesByReason r k q (reasons.Own f) = (q ≡ r) × (r ≡ k)
+RaisesByReason r k q other = ⊥
 
 abbrev pub RaisesFailure : ℕ → ℕ → JobAct → Type 0
 RaisesFailure r k (Cancel q reason) = RaisesByReason r k q reason
@@ -77,9 +77,8 @@ TakenUp r (FailedUp row acts) = (row ≡ r) ⊎ Exists (IsChildCancelOf r) acts
 TakenUp r other = ⊥
 
 abbrev pub TakesFailure : ℕ → JobAct → Told → Type 0
-TakesFailure r a (note i) = ⊥
-TakesFailure r a (on_channels fact) = ⊥
 TakesFailure r a (on_jobs fact) = TakenUp r fact
+TakesFailure r a other = ⊥
 
 -- ---- what is told
 
@@ -112,18 +111,17 @@ own_mild r k row reason false n t below h = below_mild r k t below h
 
 mild_reason : (r k row : ℕ) (reason : Reason) (newly : Bool) → IsMild k row reason newly → newly ≡ true → RaisesByReason r k row reason
     → row ≢ k ⊎ (reason ≡ reasons.Request)
-mild_reason r k row reason newly (IsMild.had_been e) t x = absurd (contrary newly t e)
+mild_reason r k row reason newly (IsMild.had_been e) t x = absurd (both_ways newly e t)
 mild_reason r k row reason newly (IsMild.asked e) t x = inr e
 mild_reason r k row reason newly (IsMild.of_scope n) t x = inl n
 
 -- the own reason of a pass is Request, or Own
 not_raised : (r k row : ℕ) (reason : Reason) (newly : Bool) → IsMild k row reason newly → IsOwnReason reason → newly ≡ true
     → RaisesByReason r k row reason → ⊥
-not_raised r k row reasons.Request newly m o t x = x
-not_raised r k row reasons.Parent newly m o t x = x
 not_raised r k row (reasons.Child c) newly m o t x = o
 not_raised r k row (reasons.Own f) newly m o t x = ⊎_elim (λ (n : row ≢ k). n (x.0 ∙ x.1)) (λ (e : reasons.Own f ≡ reasons.Request). cc)
     (mild_reason r k row (reasons.Own f) newly m t x)
+not_raised r k row other newly m o t x = x
 
 up_takes : (r k : ℕ) (t : Told) (acts : List JobAct) → (Exists (IsChildCancelOf r) acts → (a : JobAct) → TakesFailure r a t)
     → AreFor IsUp acts → AllTakenBy (RaisesFailure r k) (TakesFailure r) t acts
@@ -164,8 +162,6 @@ failure_pieces : (p : Program) (jobs : List JobEntry) (r q k : ℕ) (g : List To
     → FailurePaid k r q g
 unfolding AllPaid AllKnown
 failure_pieces p jobs r q k _ h (JobPiece.quiet g s) = paid_quiet k (owes_failure r q) (RaisesFailure r k) (TakesFailure r) g s
-failure_pieces p jobs r q k _ h (JobPiece.attaches parent row kind tag now) = (λ x. absurd x, tt)
-failure_pieces p jobs r q k _ h (JobPiece.starts row) = (λ x. absurd x, tt)
 failure_pieces p jobs r q k g h (JobPiece.passes row reason newly _ m o t) =
     let known = known_right (parents_in jobs) (map did (own_cancel newly row reason ++ t.below)) (on_jobs (PassedBelow row t.below) ∷ [])
     (subst (AllKnown (parents_in jobs)) t.all h) in
@@ -194,6 +190,7 @@ failure_pieces p jobs r q k g h (JobPiece.fails f up pass _ t e) =
           ++ on_jobs (PassedBelow k t.below) ∷ []) _ below rest,
     )
 failure_pieces p jobs r q k _ h (JobPiece.ends_body row v chain t) = (λ x. absurd x, chain_calm p k r q row chain t)
+failure_pieces p jobs r q k _ h other = (λ x. absurd x, tt)
 
 -- ---- what takes it away
 
@@ -202,7 +199,7 @@ bears_lasts = record {
   child = λ r j n h. h;
   start = λ j n h. new_bears j.kind.supervisor j.state n h;
   body = λ v j h. ap (λ b. j.kind.supervisor || b) (sym (body_cancelled j.state)) ∙ h;
-  cancel = λ cause j n h. or_true j.kind.supervisor;
+  cancel = λ cause j n h. or_right j.kind.supervisor true refl;
   finish = λ who end j m h. ap (λ b. j.kind.supervisor || b) (sym (end_cancelled j.state j end m.2)) ∙ h;
   told = λ c j h. h;
   attached = λ h x. cc;
@@ -211,20 +208,6 @@ bears_lasts = record {
     new_bears : (b : Bool) (s : JobState) → s ≡ New → (b || is_cancelled s) ≡ true → (b || false) ≡ true
     new_bears true s n h = refl
     new_bears false s n h = sym (ap is_cancelled n) ∙ h
-
-    or_true : (b : Bool) → (b || true) ≡ true
-    or_true true = refl
-    or_true false = refl
-
-two : (a b : Bool) → (a && not b) ≡ true → (a ≡ true) × (b ≡ false)
-two true false h = (refl, refl)
-two true true h = cc
-two false b h = cc
-
-bore : (a b : Bool) → (a && not b) ≡ false → a ≡ true → b ≡ true
-bore true true h e = refl
-bore true false h e = cc
-bore false b h e = cc
 
 no_debt : (tree : Tree) (r q : ℕ) → (failed_at q (tree r) ≡ true → bears (tree q) ≡ true) → owes_failure r q tree ≡ false
 no_debt tree r q h = at (failed_at q (tree r)) (bears (tree q)) h
@@ -235,11 +218,7 @@ no_debt tree r q h = at (failed_at q (tree r)) (bears (tree q)) h
 
 failed_parent : (q : ℕ) (o : Option Job) → failed_at q o ≡ true → parent_of o ≡ Some q
 failed_parent q None h = cc
-failed_parent q (Some j) h = row_is q j.parent (first (is_row q j.parent) _ h)
-  where
-    first : (a b : Bool) → (a && b) ≡ true → a ≡ true
-    first true b h = refl
-    first false b h = cc
+failed_parent q (Some j) h = row_is q j.parent (and_parts (is_row q j.parent) _ h).0
 
 failed_plain : (q : ℕ) (o : Option Job) → failed_at q o ≡ true → IsScope true o → ⊥
 failed_plain q None h s = s
@@ -253,7 +232,7 @@ failed_plain q (Some j) h s = at (is_row q j.parent) (is_failure j.cause) j.kind
 
 alive_ended : (o : Option Job) → IsAlive o → IsEnded o → ⊥
 alive_ended None a e = a
-alive_ended (Some j) a e = contrary (is_ended j.state) e a
+alive_ended (Some j) a e = both_ways (is_ended j.state) a e
 
 alive_bears : (o : Option Job) → IsCancellingOrEnded o → (IsEnded o → ⊥) → (bears o ≡ true) × IsAlive o
 alive_bears None c n = absurd c
@@ -351,14 +330,12 @@ failure_by_fact shape r q at l other h c = absurd c
 
 failure_by_told : (shape : _) (r q : ℕ) (a : JobAct) (t : Told) (at : List JobEntry) → Legal shape at → JobHolds t at → TakesFailure r a t
     → owes_failure r q (replay at) ≡ false
-failure_by_told shape r q a (note i) at l h t = absurd t
-failure_by_told shape r q a (on_channels fact) at l h t = absurd t
 failure_by_told shape r q a (on_jobs fact) at l h t = failure_by_fact shape r q at l fact h t
+failure_by_told shape r q a other at l h t = absurd t
 
 no_act : (r : ℕ) (a : JobAct) (t : Told) (b : JobAct) → job_told t ≡ Some b → TakesFailure r a t → ⊥
-no_act r a (note i) b m t = t
-no_act r a (on_channels fact) b m t = t
 no_act r a (on_jobs fact) b m t = cc
+no_act r a other b m t = t
 
 -- ---- which act raises it
 
@@ -418,9 +395,9 @@ failure_raised : (shape : _) (tree : Tree) (who r q : ℕ) (act : JobAct) (x y :
 failure_raised shape tree who r q _ _ _ (RowStep.is_attached p kind tag cancelled m i) is fits f t =
     absurd (not_failure q (Some p) (first_cause cancelled) (not kind.scoped) (first_is_none cancelled) t)
 failure_raised shape tree who r q _ _ _ (RowStep.has_child c kind tag cancelled j none m) is fits f t =
-    absurd (contrary (failed_at q (Some j)) t f)
-failure_raised shape tree who r q _ _ _ (RowStep.is_started j n) is fits f t = absurd (contrary (failed_at q (Some j)) t f)
-failure_raised shape tree who r q _ _ _ (RowStep.body_ends v j m) is fits f t = absurd (contrary (failed_at q (Some j)) t f)
+    absurd (both_ways (failed_at q (Some j)) f t)
+failure_raised shape tree who r q _ _ _ (RowStep.is_started j n) is fits f t = absurd (both_ways (failed_at q (Some j)) f t)
+failure_raised shape tree who r q _ _ _ (RowStep.body_ends v j m) is fits f t = absurd (both_ways (failed_at q (Some j)) f t)
 failure_raised shape tree who r q _ _ _ (RowStep.is_cancelled reasons.Request j m o) is fits f t =
     absurd (not_failure q j.parent because.Request (not j.kind.scoped) refl t)
 failure_raised shape tree who r q _ _ _ (RowStep.is_cancelled reasons.Parent j m o) is fits f t =
@@ -428,14 +405,9 @@ failure_raised shape tree who r q _ _ _ (RowStep.is_cancelled reasons.Parent j m
 failure_raised shape tree who r q _ _ _ (RowStep.is_cancelled (reasons.Child c) j m o) is fits f t = refl
 failure_raised shape tree who r q _ _ _ (RowStep.is_cancelled (reasons.Own g) j m o) is fits f t =
     (refl, fits (third (is_row q j.parent) true j.kind.scoped t) ∙ tag_is j (tree r) who is o.0)
-failure_raised shape tree who r q _ _ _ (RowStep.ends end j m) is fits f t = absurd (contrary (failed_at q (Some j)) t f)
-failure_raised shape tree who r q _ _ _ (RowStep.is_told c j m p) is fits f t = absurd (contrary (failed_at q (Some j)) t f)
-failure_raised shape tree who r q _ _ _ (RowStep.stays act x a b c d e) is fits f t = absurd (contrary (failed_at q x) t f)
-
-not_before : (a b : Bool) → (a && not b) ≡ false → (b ≡ true → ⊥) → a ≡ false
-not_before true true h n = absurd (n refl)
-not_before true false h n = cc
-not_before false b h n = refl
+failure_raised shape tree who r q _ _ _ (RowStep.ends end j m) is fits f t = absurd (both_ways (failed_at q (Some j)) f t)
+failure_raised shape tree who r q _ _ _ (RowStep.is_told c j m p) is fits f t = absurd (both_ways (failed_at q (Some j)) f t)
+failure_raised shape tree who r q _ _ _ (RowStep.stays act x a b c d e) is fits f t = absurd (both_ways (failed_at q x) f t)
 
 of_start : (q : ℕ) (b x : Bool) → (failed_at q (if b then Some root else None) && x) ≡ false
 of_start q true x = refl
@@ -449,11 +421,11 @@ failure_debt p jobs l r q = record {
   first = of_start q (r == 0) _;
   rises = λ before e rest parts f t.
       let needs = needs_there (job_shape p) jobs before e rest l parts in
-      let now = two (failed_at q (after (replay before) e.who e.act r)) (bears (after (replay before) e.who e.act q)) t in
+      let now = parts_of (failed_at q (after (replay before) e.who e.act r)) (bears (after (replay before) e.who e.act q)) t in
       failure_raised (job_shape p) (replay before) e.who r q e.act _ _ (row_step (job_shape p) (replay before) e.who e.act r needs) refl
       (tag_fits (job_shape p) before r (Legal-prefix (job_shape p) before (e ∷ rest) (subst (Legal (job_shape p)) parts l)))
       (not_before (failed_at q (replay before r)) (bears (replay before q)) f
-      (λ b. contrary _ (act_keeps (λ x. bears x ≡ true) bears_lasts (job_shape p) (replay before) e.who e.act q needs b) now.1)) now.0;
+      (λ b. both_ways _ now.1 (act_keeps (λ x. bears x ≡ true) bears_lasts (job_shape p) (replay before) e.who e.act q needs b))) now.0;
   pieces = λ k g h s. failure_pieces p jobs r q k g h s;
   by_fact = λ a t at more parts h m x. failure_by_told (job_shape p) r q a t at
       (Legal-prefix (job_shape p) at more (subst (Legal (job_shape p)) (sym parts) l)) h x;
@@ -472,16 +444,12 @@ is_failed q (Some j) h = at (is_row q j.parent) (is_failure j.cause) j.kind.scop
 
 borne : (o : Option Job) → bears o ≡ true → BearsFailures o
 borne None h = cc
-borne (Some j) h = at j.kind.supervisor (is_cancelled j.state) h
-  where
-    at : (a b : Bool) → (a || b) ≡ true → (a ≡ true) ⊎ (b ≡ true)
-    at true b h = inl refl
-    at false b h = inr h
+borne (Some j) h = or_cases j.kind.supervisor (is_cancelled j.state) h
 
 -- the parent of a Job that failed and is no scope bears it
 pub failed : (p : Program) (books : List (List Item)) (channels : List Entry) (jobs : List JobEntry) → BooksOf p books channels jobs
     → (r parent : ℕ) → IsFailedChild parent (replay jobs r) → BearsFailures (replay jobs parent)
 unfolding failure_debt
 failed p books channels jobs of r parent h = borne (replay jobs parent)
-    (bore (failed_at parent (replay jobs r)) (bears (replay jobs parent))
+    (other_part (failed_at parent (replay jobs r)) (bears (replay jobs parent))
     (nobody_owes p books channels jobs of (failure_debt p jobs of.legal_jobs r parent)) (is_failed parent (replay jobs r) h))

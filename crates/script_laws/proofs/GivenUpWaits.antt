@@ -1,7 +1,8 @@
 -- Each wait that a book gives up was taken back, or a cancellation was seen before.
-use Rattle.std.specs.Prelude.{◌≡◌, ℕ, Bool, true, false, List, [], ◌∷◌, ◌++◌, Option, Some, None, refl}
+use Rattle.std.specs.Prelude.{◌≡◌, ℕ, true, false, List, [], ◌∷◌, ◌++◌, Option, Some, None, refl}
 use mathlib.Core.List.{IsPrefix}
 use Rattle.std.proofs.Common.{sym, ap, ◌∙◌, subst}
+use Rattle.std.proofs.lemmas.Bool.{both_ways}
 use Rattle.co_base.specs.declared.names.WaitId.{WaitId}
 use Rattle.channel_model.specs.declared.acts.Act.{Act}
 use Rattle.channel_model.specs.declared.acts.Act.TheVariants.{Withdraw, Settle}
@@ -54,13 +55,9 @@ settled_same : (w u : WaitId) (outcome other : Settled) → item.Channel (of_cha
     × (other ≡ outcome)
 settled_same w u outcome other e = (cc, cc)
 
-contrary : (b : Bool) → b ≡ true → b ≡ false → ⊥
-contrary true p q = cc
-contrary false p q = cc
-
 not_waitless : (i : Item) (w : WaitId) (outcome : Settled) → is_waitless (call_told (note i)) ≡ true → i ≡ settle_note w outcome → ⊥
 not_waitless i w outcome q e = let f : is_waitless (call_told (note i)) ≡ false = ap (λ j. is_waitless (call_told (note j))) e
-    in contrary (is_waitless (call_told (note i))) q f
+    in both_ways (is_waitless (call_told (note i))) f q
 
 names_none : (a : Act) (u w : WaitId) (outcome : Settled) → named_by a ≡ Some u → item.Channel (of_channel.Made a) ≡ settle_note w outcome
     → ⊥
@@ -117,7 +114,7 @@ module _ (shape : Shape) (k : ℕ) (now : Moment) (l : Legal shape now.channels)
       (λ later f. wider w (replay now.channels) _ later outcome (gives_up _ t.0 (Some u) o more h t.2 later rest w outcome f g))
   gives_up items earlier _ _ _ (WaitsTold.ends u other o more q h) t before rest w outcome e g =
       first_or_later (Given w outcome) _ (items_in more) before rest (settle_note w outcome) e
-      (λ f. absurd (contrary (is_given_up outcome) g (ap is_given_up (sym (settled_same w u outcome other f).1) ∙ q)))
+      (λ f. absurd (both_ways (is_given_up outcome) (ap is_given_up (sym (settled_same w u outcome other f).1) ∙ q) g))
       (λ later f. wider w (replay now.channels) _ later outcome (gives_up _ t.0 None o more h t.2 later rest w outcome f g))
   gives_up items earlier _ _ _ (WaitsTold.taken_back u o more h) t before rest w outcome e g =
       first_or_later (Given w outcome) _ (items_in more) before rest (settle_note w outcome) e

@@ -1,5 +1,5 @@
 -- In a run that came to rest no coroutine has a move that is so.
-use Rattle.std.specs.Prelude.{◌≡◌, ℕ, ◌==◌, ◌<◌, Bool, true, false, List, [], ◌∷◌, ◌++◌, Option, Some, None, is_some, if◌then◌else◌}
+use Rattle.std.specs.Prelude.{◌≡◌, ℕ, ◌==◌, ◌<◌, Bool, true, false, List, [], ◌∷◌, ◌++◌, Option, Some, None, if◌then◌else◌}
 use Rattle.std.proofs.Common.{arith, refl, ap, sym, ◌∙◌, subst, append_assoc}
 use Rattle.std.proofs.lemmas.Bool.Decides.{nat_tests}
 use Rattle.std.proofs.lemmas.List.{append-nil, append_cancel_left}
@@ -9,11 +9,9 @@ use Rattle.channel_model.specs.declared.acts.Act.TheVariants.{Settle}
 use Rattle.channel_model.specs.declared.acts.Entry.{Entry}
 use Rattle.channel_model.specs.declared.acts.Settled.{Settled}
 use Rattle.channel_model.specs.declared.acts.Settled.TheVariants as settled
-use Rattle.channel_model.specs.declared.standing.Resolution.{Resolution}
 use Rattle.channel_model.specs.Channels.{Wait}
 use Rattle.channel_model.specs.Outcomes.{IsOutcome}
 use Rattle.channel_model.specs.Needs.{IsOpenOf, MaySettle}
-use Rattle.channel_model.specs.Answers.{IsResolvedWait}
 use Rattle.channel_model.specs.Floors.{entries_by}
 use Rattle.channel_model.specs.Histories.{replay, acts_of, Legal}
 use Rattle.channel_model.proofs.Histories.{acts_of-append, Legal-last}
@@ -40,6 +38,7 @@ use Rattle.script_meaning.specs.Books.{BooksOf, book_at, story}
 use Rattle.script_meaning.specs.Moves.{Move}
 use Rattle.script_meaning.specs.Idle.{IsNotStarted, IsLeft, IsIdle}
 use Rattle.script_laws.specs.GoingOn.{with_acts, GoesOn}
+use Rattle.channel_model.proofs.Resolutions.{open_of}
 
 -- ---- a moment behind which k alone made entries, and to which it made none, is the first one
 
@@ -87,10 +86,6 @@ same_jobs k now at acts (d, e) (f, g) same =
     sym e ∙ ap (λ l. now ++ l) (no_job_act k acts d f rest none) ∙ append-nil now
 
 -- ---- what a wait or a Job that is so is not
-
-open_not_resolved : (k : ℕ) (o : Option Wait) → IsOpenOf k o → IsResolvedWait o → ⊥
-open_not_resolved k None h r = h
-open_not_resolved k (Some x) h r = let none : false ≡ true = subst (λ (how : Option Resolution). is_some how ≡ true) h.1 r in cc
 
 open_not_back : (k : ℕ) (o : Option Wait) → IsOpenOf k o → IsWithdrawnOrVoided o → ⊥
 open_not_back k None h r = h
@@ -142,7 +137,7 @@ module _ (p : Program) (k : ℕ) (book : List Item) (now : Moment) (own : acts_o
         not_started_cancelling (replay_jobs now.jobs k) (left_at x left Fresh s).0 (first_now (saw k) [] t)
     refused _ _ _ left (Move.calls x y i group a at c f) t l = left_at x left Running at.stage
     refused _ _ _ left (Move.resumes x y w i outcome a s at m f) t l =
-        open_not_resolved k ((replay now.channels).waits w) (left_at x left (Waiting w) s).0.open_now
+        open_of k ((replay now.channels).waits w) (left_at x left (Waiting w) s).0.open_now
         (first_now (on_channels (IsResolved w)) (on_jobs (MayRun (innermost k x)) ∷ made (Settle w outcome) ∷ []) t)
     refused _ _ _ left (Move.cancelled x w s) t l =
         open_not_back k ((replay now.channels).waits w) (left_at x left (Waiting w) s).0.open_now

@@ -3,7 +3,7 @@
 use Rattle.std.specs.Prelude.{◌≡◌, ℕ, suc, ◌+◌, ◌-◌, ◌<◌, ◌≤◌, ◌==◌, nat_le, Bool, true, false, not, ◌||◌, ◌&&◌, List, [], ◌∷◌, ◌++◌, length, replicate, Option, Some, None, is_some, slice_index_or, if◌then◌else◌, MatchBool, refl}
 use Rattle.std.specs.List.{list_any, list_all}
 use Rattle.std.proofs.Common.{sym, ap, ◌∙◌, subst, ⊎_elim, append_assoc, arith}
-use Rattle.std.proofs.lemmas.Bool.{eqb-true, or_from, or_parts, or_left}
+use Rattle.std.proofs.lemmas.Bool.{eqb-true, or_from, or_parts, or_left, and_from}
 use Rattle.std.proofs.lemmas.Bool.Decides.{nat_tests}
 use Rattle.std.proofs.lemmas.List.{length-map, get_or-replicate, append-nil}
 use Rattle.std.proofs.lemmas.List.Folds.{list_any-append}
@@ -61,10 +61,6 @@ use Rattle.script_laws.proofs.ClaimsAttached.{stands_give, is_spent}
 
 -- ---- the clauses of a coroutine on done channels are single
 
-and_both : (a b : Bool) → a ≡ true → b ≡ true → (a && b) ≡ true
-and_both true b e f = f
-and_both false b e f = cc
-
 -- a clause with another number stands on a channel of which a place is given
 act_plain : (c : ℕ) (act : Act) → places_on c act ≡ false → plain_at c act ≡ true
 act_plain c (Offer d q v w n) e = ap (λ b. not b || (n == 0)) e
@@ -75,7 +71,7 @@ acts_plain : (c : ℕ) (acts : List Act) → list_any (places_on c) acts ≡ fal
 acts_plain c [] e = refl
 acts_plain c (act ∷ acts) e =
     let two = or_parts (places_on c act) (list_any (places_on c) acts) e in
-    and_both (plain_at c act) (list_all (plain_at c) acts) (act_plain c act two.0) (acts_plain c acts two.1)
+    and_from (plain_at c act) (list_all (plain_at c) acts) (act_plain c act two.0) (acts_plain c acts two.1)
 
 quiet_plain : (base c : ℕ) (items : List Item) → base ≤ c → list_any (item_asks base) items ≡ false
     → list_all (plain_at c) (channel_acts_in items) ≡ true
@@ -177,14 +173,8 @@ none_later shape tree (x ∷ es) who r l h e = by_who (x.who == who)
 
 now_attached : (shape : JobShape) (tree : Tree) (who q : ℕ) (act : JobAct) (x y : Option Job) → RowStep shape tree who q act x y
     → attaches q act ≡ true → is_some y ≡ true
-now_attached shape tree who q _ _ _ (RowStep.is_attached p kind tag cancelled m i) e = refl
-now_attached shape tree who q _ _ _ (RowStep.has_child r kind tag cancelled j none m) e = refl
-now_attached shape tree who q _ _ _ (RowStep.is_started j n) e = refl
-now_attached shape tree who q _ _ _ (RowStep.body_ends v j m) e = refl
-now_attached shape tree who q _ _ _ (RowStep.is_cancelled reason j m o) e = refl
-now_attached shape tree who q _ _ _ (RowStep.ends end j m) e = refl
-now_attached shape tree who q _ _ _ (RowStep.is_told d j m p) e = refl
 now_attached shape tree who q _ _ _ (RowStep.stays act x a b d e f) g = absurd (let both : false ≡ true = sym a ∙ g in cc)
+now_attached shape tree who q _ _ _ other e = refl
 
 -- each Job was attached by one
 attached_once : (shape : JobShape) (tree : Tree) (es : List JobEntry) (u k r : ℕ) → LegalFrom shape tree es
@@ -266,7 +256,7 @@ all_left test (x ∷ xs) ys h = by_test (test x) refl h (all_left test xs ys)
   where
     by_test : (b : Bool) → test x ≡ b → (b && list_all test (xs ++ ys)) ≡ true → (list_all test (xs ++ ys) ≡ true → list_all test xs ≡ true)
         → (test x && list_all test xs) ≡ true
-    by_test true e h more = and_both (test x) (list_all test xs) e (more h)
+    by_test true e h more = and_from (test x) (list_all test xs) e (more h)
     by_test false e h more = cc
 
 all_shorter : (test : Act → Bool) (u : ℕ) (xs ys : List Entry) → IsPrefix xs ys → list_all test (acts_of u ys) ≡ true

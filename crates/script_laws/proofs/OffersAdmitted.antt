@@ -3,7 +3,7 @@ use Rattle.std.proofs.lemmas.List.{append-nil}
 use Rattle.std.proofs.Common.{◌≡◌, ℕ, ◌<◌, ◌≤◌, arith, Bool, true, false, not, ◌&&◌, List, [], ◌∷◌, ◌++◌, refl, ap, sym, ◌∙◌, subst, ⊎_elim, append_assoc}
 use Rattle.std.specs.Prelude.{◌==◌, ◌+◌, ◌||◌, nat_lt, is_some}
 use Rattle.std.specs.List.{list_any}
-use Rattle.std.proofs.lemmas.Bool.{eqb-true}
+use Rattle.std.proofs.lemmas.Bool.{eqb-true, both_ways, and_from, and_right, or_right, and_left}
 use Rattle.std.proofs.lemmas.Bool.Decides.{nat_tests}
 use Rattle.channel_model.specs.declared.acts.Act.{Act}
 use Rattle.channel_model.specs.declared.acts.Act.TheVariants.{Offer, Take, Drain}
@@ -29,9 +29,9 @@ use Rattle.script_meaning.proofs.Payments.{act_list, AllSo}
 use Rattle.script_meaning.proofs.ActsFollowed.{IsTold, HasAdmits, Follows, call_told}
 use Rattle.script_meaning.proofs.ChannelStories.{who_did, deed, CallHolds, CallsSo, same_state}
 use Rattle.script_laws.proofs.ChannelDebts.{CallDebt, BehindOf, CallPaidAt, by_fact, nobody_owes, needs_there, legal_before}
-use Rattle.script_laws.proofs.ClosedChannels.{AllBefore, contrary, and_true}
+use Rattle.script_laws.proofs.ClosedChannels.{AllBefore}
 use Rattle.script_grammar.proofs.Truths.{both_true}
-use Rattle.script_laws.proofs.QueuesFit.{all_placed, no_drop}
+use Rattle.script_laws.proofs.QueuesFit.{all_placed}
 
 -- an offer stands at place q and is held, and some offer up to it is held with room
 abbrev pub stands_held : ℕ → Standing → Bool
@@ -129,7 +129,7 @@ lower_mark m q kind n (o ∷ os) h e = at (is_some o.holder) (nat_lt o.place m) 
         last true f y h = h
         last false f y h = h
     at true true b' false x y i j h = cc
-    at true false true f x y i j h = absurd (contrary false (i refl) refl)
+    at true false true f x y i j h = absurd (both_ways false refl (i refl))
     at true false false f x y i j h = j h
 
 pub held_before : (q n : ℕ) (os : List Standing) → AllBefore n os → list_any (stands_held q) os ≡ true → q < n
@@ -153,10 +153,6 @@ some_room : (kind : Kind) (n : ℕ) (os : List Standing) → owes_admission kind
 some_room kind n [] h = cc
 some_room kind n (o ∷ os) h = at (is_some o.holder) (is_full kind n) refl refl (λ t. some_room kind (n + 1) os t) h
   where
-    or_right : (a b : Bool) → b ≡ true → (a || b) ≡ true
-    or_right true b h = refl
-    or_right false b h = h
-
     here : (o.place == o.place) ≡ true
     here = grind (arith, nat_tests)
 
@@ -173,7 +169,7 @@ some_room kind n (o ∷ os) h = at (is_some o.holder) (is_full kind n) refl refl
     now a f = record {
       place = o.place;
       stands = ap (λ b. b
-          || list_any (stands_held o.place) os) (and_true (o.place == o.place) (is_some o.holder) here a);
+          || list_any (stands_held o.place) os) (and_from (o.place == o.place) (is_some o.holder) here a);
       owed =
           all (is_some o.holder) (nat_lt o.place (o.place + 1)) (is_full kind n) _ a below f;
     }
@@ -190,11 +186,7 @@ some_room kind n (o ∷ os) h = at (is_some o.holder) (is_full kind n) refl refl
 -- ---- an act behind which the marks stand
 
 of_empty : (kind : Kind) (q : ℕ) (s : State) (c : ℕ) → (s.channels c).queue ≡ [] → owes_admit kind q (s.channels c) ≡ false
-of_empty kind q s c e = at (list_any (stands_held q) (s.channels c).queue) (ap (list_any (stands_held q)) e)
-  where
-    at : (b : Bool) → b ≡ false → (b && owes_admission_below kind (q + 1) 0 (s.channels c).queue) ≡ false
-    at true h = cc
-    at false h = refl
+of_empty kind q s c e = and_left (list_any (stands_held q) (s.channels c).queue) _ (ap (list_any (stands_held q)) e)
 
 one_more : (xs : List Entry) (x : Entry) (ys : List Entry) → (xs ++ x ∷ []) ++ ys ≡ xs ++ x ∷ ys
 one_more [] x ys = refl
@@ -237,7 +229,7 @@ by_mark shape channels l c q k before e rest ys parts owed behind has =
       parts = m.second.parts;
       acts = m.second.acts;
       paid = subst (λ (s : State). owes_admit (kind_at shape c) q (s.channels c) ≡ false) (sym (same_state start m.second.at))
-          (no_drop _ _ (lower_mark m.mark q (kind_at shape c) 0 ((replay m.second.at).channels c).queue below m.second.holds));
+          (and_right _ _ (lower_mark m.mark q (kind_at shape c) 0 ((replay m.second.at).channels c).queue below m.second.holds));
     }
 
 admit_pays : (shape : Shape) (channels : List Entry) → Legal shape channels
@@ -276,6 +268,7 @@ admitted_at_end raised p books channels jobs of c = at (owes_admission (kind_at 
         → owes_admission (kind_at (floor_shape p) c) 0 ((replay channels).channels c).queue ≡ false
     at true e =
         let r = some_room (kind_at (floor_shape p) c) 0 ((replay channels).channels c).queue e in
-        absurd (contrary (owes_admit (kind_at (floor_shape p) c) r.place ((replay channels).channels c)) (and_true _ _ r.stands r.owed)
-        (nobody_owes p books channels jobs of (admit_debt raised (floor_shape p) channels of.legal_channels c r.place)))
+        absurd (both_ways (owes_admit (kind_at (floor_shape p) c) r.place ((replay channels).channels c))
+        (nobody_owes p books channels jobs of (admit_debt raised (floor_shape p) channels of.legal_channels c r.place))
+        (and_from _ _ r.stands r.owed))
     at false e = e

@@ -2,7 +2,7 @@
 use Rattle.std.proofs.Common.{◌≡◌, ℕ, arith, Bool, true, false, ◌&&◌, List, [], ◌∷◌, ◌++◌, refl, ap, sym, ◌∙◌, subst, ⊎_elim, Some, None, if◌then◌else◌}
 use Rattle.std.specs.Prelude.{◌==◌, ◌||◌, ◌+◌, not}
 use Rattle.std.proofs.lemmas.List.{append-nil}
-use Rattle.std.proofs.lemmas.Bool.{eqb-true, eq-eqb}
+use Rattle.std.proofs.lemmas.Bool.{eqb-true, eq-eqb, both_ways, or_from, or_parts}
 use Rattle.channel_model.specs.declared.acts.Act.{Act}
 use Rattle.channel_model.specs.declared.acts.Act.TheVariants.{Hand, Put, Offer, Await, Take, Admit, Drop, Spurn, Close, Void, Drain, WakeClosed, Withdraw, Settle}
 use Rattle.channel_model.specs.declared.acts.Entry.{Entry}
@@ -25,7 +25,7 @@ use Rattle.script_meaning.proofs.Payments.{acts_told, takes_off}
 use Rattle.script_meaning.proofs.ActsFollowed.{call_told, IsSpurned, Follows}
 use Rattle.script_meaning.proofs.ChannelStories.{step, who_did, deed, CallHolds, CallsSo, same_state}
 use Rattle.script_laws.proofs.ChannelDebts.{CallDebt, BehindOf, CallPaidAt, nobody_owes, needs_there}
-use Rattle.script_laws.proofs.ClosedChannels.{less_after, contrary}
+use Rattle.script_laws.proofs.ClosedChannels.{less_after}
 use Rattle.script_laws.proofs.QueuesFit.{IsPutAt}
 
 abbrev owes_at : Shape → ℕ → ℕ → State → Bool
@@ -78,55 +78,55 @@ spurn_raised shape s who c q (Put d r v) n f t = at (d == c) refl t
         (if b then place_offer true (record { place = r; value = v; holder = None }) (s.channels d) else s.channels c).queue ≡ true
         → (d ≡ c) × (r ≡ q)
     at true e t = (eqb-true d c e, there (eqb-true d c e) t)
-    at false e t = absurd (contrary (owes_at shape c q s) t f)
+    at false e t = absurd (both_ways (owes_at shape c q s) f t)
 spurn_raised shape s who c q (Offer d r v w k) n f t = absurd (at (d == c) refl t)
   where
     at : (b : Bool) → (d == c) ≡ b → owes_spurn_at (kind_at shape c) q 0
         (if b then place_offer (is_open (s.waits w)) (record { place = r; value = v; holder = Some (record { wait = w; clause = k }) })
         (s.channels d) else s.channels c).queue ≡ true → ⊥
     at true e t = none_waits (kind_at shape c) q 0 _ (subst (λ u. suspends (kind_at shape u) ≡ true) (eqb-true d c e) n.3) t
-    at false e t = contrary (owes_at shape c q s) t f
+    at false e t = both_ways (owes_at shape c q s) f t
 spurn_raised shape s who c q (Await d r w k) n f t = absurd (at (d == c) refl (is_open (s.waits w)) t)
   where
     at : (b : Bool) → (d == c) ≡ b → (o : Bool) → owes_spurn_at (kind_at shape c) q 0
         (if b then place_receiver o (record { place = r; party = record { wait = w; clause = k } }) (s.channels d) else s.channels
         c).queue ≡ true → ⊥
-    at true e true t = contrary (owes_at shape c q s) (subst (λ u. owes_spurn_at (kind_at shape c) q 0 (s.channels u).queue ≡ true)
-        (eqb-true d c e) t) f
-    at true e false t = contrary (owes_at shape c q s) (subst (λ u. owes_spurn_at (kind_at shape c) q 0 (s.channels u).queue ≡ true)
-        (eqb-true d c e) t) f
-    at false e o t = contrary (owes_at shape c q s) t f
+    at true e true t = both_ways (owes_at shape c q s) f (subst (λ u. owes_spurn_at (kind_at shape c) q 0 (s.channels u).queue ≡ true)
+        (eqb-true d c e) t)
+    at true e false t = both_ways (owes_at shape c q s) f (subst (λ u. owes_spurn_at (kind_at shape c) q 0 (s.channels u).queue ≡ true)
+        (eqb-true d c e) t)
+    at false e o t = both_ways (owes_at shape c q s) f t
 spurn_raised shape s who c q (Close d v) n f t = absurd (at (d == c) refl t)
   where
     at : (b : Bool) → (d == c) ≡ b → owes_spurn_at (kind_at shape c) q 0
         (if b then record (s.channels d) { closed = Some v } else s.channels c).queue ≡ true → ⊥
-    at true e t = contrary (owes_at shape c q s) (subst (λ u. owes_spurn_at (kind_at shape c) q 0 (s.channels u).queue ≡ true)
-        (eqb-true d c e) t) f
-    at false e t = contrary (owes_at shape c q s) t f
+    at true e t = both_ways (owes_at shape c q s) f (subst (λ u. owes_spurn_at (kind_at shape c) q 0 (s.channels u).queue ≡ true)
+        (eqb-true d c e) t)
+    at false e t = both_ways (owes_at shape c q s) f t
 spurn_raised shape s who c q (Void d) n f t = absurd (at (d == c) refl t)
   where
     at : (b : Bool) → (d == c) ≡ b → owes_spurn_at (kind_at shape c) q 0
         (if b then record (s.channels d) { voided = true } else s.channels c).queue ≡ true → ⊥
-    at true e t = contrary (owes_at shape c q s) (subst (λ u. owes_spurn_at (kind_at shape c) q 0 (s.channels u).queue ≡ true)
-        (eqb-true d c e) t) f
-    at false e t = contrary (owes_at shape c q s) t f
+    at true e t = both_ways (owes_at shape c q s) f (subst (λ u. owes_spurn_at (kind_at shape c) q 0 (s.channels u).queue ≡ true)
+        (eqb-true d c e) t)
+    at false e t = both_ways (owes_at shape c q s) f t
 spurn_raised shape s who c q (Hand d p v) n f t = absurd
-    (contrary (owes_at shape c q s) ((less_after s who (Hand d p v) refl c).spurn (kind_at shape c) q 0 0 (omega arith) t) f)
+    (both_ways (owes_at shape c q s) f ((less_after s who (Hand d p v) refl c).spurn (kind_at shape c) q 0 0 (omega arith) t))
 spurn_raised shape s who c q (Take d p v) n f t = absurd
-    (contrary (owes_at shape c q s) ((less_after s who (Take d p v) refl c).spurn (kind_at shape c) q 0 0 (omega arith) t) f)
+    (both_ways (owes_at shape c q s) f ((less_after s who (Take d p v) refl c).spurn (kind_at shape c) q 0 0 (omega arith) t))
 spurn_raised shape s who c q (Admit d p) n f t = absurd
-    (contrary (owes_at shape c q s) ((less_after s who (Admit d p) refl c).spurn (kind_at shape c) q 0 0 (omega arith) t) f)
+    (both_ways (owes_at shape c q s) f ((less_after s who (Admit d p) refl c).spurn (kind_at shape c) q 0 0 (omega arith) t))
 spurn_raised shape s who c q (Drop d p v) n f t = absurd
-    (contrary (owes_at shape c q s) ((less_after s who (Drop d p v) refl c).spurn (kind_at shape c) q 0 0 (omega arith) t) f)
+    (both_ways (owes_at shape c q s) f ((less_after s who (Drop d p v) refl c).spurn (kind_at shape c) q 0 0 (omega arith) t))
 spurn_raised shape s who c q (Spurn d p v) n f t = absurd
-    (contrary (owes_at shape c q s) ((less_after s who (Spurn d p v) refl c).spurn (kind_at shape c) q 0 0 (omega arith) t) f)
+    (both_ways (owes_at shape c q s) f ((less_after s who (Spurn d p v) refl c).spurn (kind_at shape c) q 0 0 (omega arith) t))
 spurn_raised shape s who c q (Drain d p v) n f t = absurd
-    (contrary (owes_at shape c q s) ((less_after s who (Drain d p v) refl c).spurn (kind_at shape c) q 0 0 (omega arith) t) f)
+    (both_ways (owes_at shape c q s) f ((less_after s who (Drain d p v) refl c).spurn (kind_at shape c) q 0 0 (omega arith) t))
 spurn_raised shape s who c q (WakeClosed d p) n f t = absurd
-    (contrary (owes_at shape c q s) ((less_after s who (WakeClosed d p) refl c).spurn (kind_at shape c) q 0 0 (omega arith) t) f)
+    (both_ways (owes_at shape c q s) f ((less_after s who (WakeClosed d p) refl c).spurn (kind_at shape c) q 0 0 (omega arith) t))
 spurn_raised shape s who c q (Withdraw w why) n f t = absurd
-    (contrary (owes_at shape c q s) ((less_after s who (Withdraw w why) refl c).spurn (kind_at shape c) q 0 0 (omega arith) t) f)
-spurn_raised shape s who c q (Settle w outcome) n f t = absurd (contrary (owes_at shape c q s) t f)
+    (both_ways (owes_at shape c q s) f ((less_after s who (Withdraw w why) refl c).spurn (kind_at shape c) q 0 0 (omega arith) t))
+spurn_raised shape s who c q (Settle w outcome) n f t = absurd (both_ways (owes_at shape c q s) f t)
 
 -- ---- what takes it away
 
@@ -196,25 +196,13 @@ spurn_debt shape channels l c q = record {
 none_at_all : (kind : Kind) (n : ℕ) (os : List Standing) → ((q : ℕ) → owes_spurn_at kind q n os ≡ false) → owes_spurn kind n os ≡ false
 none_at_all kind n [] h = refl
 none_at_all kind n (o ∷ os) h =
-    both_none (spurns kind n) (owes_spurn kind (n + 1) os)
+    or_from (spurns kind n) (owes_spurn kind (n + 1) os)
     (front (o.place == o.place) (eq-eqb o.place o.place refl) (h o.place))
-    (none_at_all kind (n + 1) os (λ q. behind ((o.place == q) && spurns kind n) (owes_spurn_at kind q (n + 1) os) (h q)))
+    (none_at_all kind (n + 1) os (λ q. (or_parts ((o.place == q) && spurns kind n) (owes_spurn_at kind q (n + 1) os) (h q)).1))
   where
-    both_none : (a b : Bool) → a ≡ false → b ≡ false → (a || b) ≡ false
-    both_none false b f g = g
-    both_none true b f g = cc
-
     front : (b : Bool) → b ≡ true → ((b && spurns kind n) || owes_spurn_at kind o.place (n + 1) os) ≡ false → spurns kind n ≡ false
-    front true e f = first (spurns kind n) _ f
-      where
-        first : (x y : Bool) → (x || y) ≡ false → x ≡ false
-        first false y f = refl
-        first true y f = cc
+    front true e f = (or_parts (spurns kind n) _ f).0
     front false e f = cc
-
-    behind : (a b : Bool) → (a || b) ≡ false → b ≡ false
-    behind false b f = f
-    behind true b f = cc
 
 -- no element is too many at the end of a run
 pub none_to_spurn : (p : Program) (books : List (List Item)) (channels : List Entry) (jobs : List JobEntry) → BooksOf p books channels jobs

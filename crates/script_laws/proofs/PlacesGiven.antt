@@ -1,9 +1,10 @@
 -- Who gave out the places of a channel; and a wait of one clause that was resolved as closed has its channel closed.
 use Rattle.script_grammar.proofs.Truths.{both_true}
-use Rattle.std.specs.Prelude.{◌≡◌, ℕ, ◌≤◌, ◌==◌, ◌⊎◌, Bool, true, false, not, ◌||◌, ◌&&◌, List, [], ◌∷◌, Option, Some, None, is_some, if◌then◌else◌, MatchBool, refl}
+use Rattle.std.specs.Prelude.{◌≡◌, ℕ, ◌≤◌, ◌==◌, ◌⊎◌, Bool, true, false, not, ◌||◌, List, [], ◌∷◌, Option, Some, None, is_some, if◌then◌else◌, MatchBool, refl}
 use Rattle.std.specs.List.{list_any, list_all}
 use Rattle.std.proofs.Common.{sym, ap, ◌∙◌, subst, inl, inr, ⊎_elim, arith}
-use Rattle.std.proofs.lemmas.Bool.{eqb-true, eq-eqb, or_right}
+use Rattle.std.proofs.lemmas.Bool.{eqb-true, eq-eqb, or_right, and_from, both_ways, or_left}
+use Rattle.std.proofs.lemmas.Option.{same_Some}
 use Rattle.co_base.specs.declared.names.WaitId.{WaitId}
 use Rattle.channel_model.specs.declared.acts.Act.{Act}
 use Rattle.channel_model.specs.declared.acts.Act.TheVariants.{Hand, Put, Offer, Await, Take, Admit, Drop, Spurn, Close, Void, Drain, WakeClosed, Withdraw, Settle}
@@ -83,19 +84,14 @@ act_next c s who (Close d v) = inl (put_next c d _ s refl)
 act_next c s who (Void d) = inl (put_next c d _ s refl)
 act_next c s who (Drain d p v) = inl (offer_next c d (s.channels d).queue _ s)
 act_next c s who (WakeClosed d p) = inl (first_next c (s.channels d).receivers _ s)
-act_next c s who (Withdraw w why) = inl refl
-act_next c s who (Settle w outcome) = inl refl
+act_next c s who other = inl refl
 
 own_act : (test : Act → Bool) (e : Entry) (es : List Entry) → test e.act ≡ true → list_any test (acts_of e.who (e ∷ es)) ≡ true
 unfolding acts_of
 own_act test e es h = by_test (e.who == e.who) (eq-eqb e.who e.who refl)
   where
     by_test : (b : Bool) → b ≡ true → list_any test (if b then e.act ∷ acts_of e.who es else acts_of e.who es) ≡ true
-    by_test true f = first (test e.act) h
-      where
-        first : (a : Bool) → a ≡ true → (a || list_any test (acts_of e.who es)) ≡ true
-        first true g = refl
-        first false g = cc
+    by_test true f = or_left (test e.act) _ h
     by_test false f = cc
 
 later_act : (test : Act → Bool) (u : ℕ) (e : Entry) (es : List Entry) → list_any test (acts_of u es) ≡ true
@@ -152,10 +148,7 @@ is_closing (resolved.Closed j u) = true
 is_closing other = false
 
 how_closes : (how : Resolution) (j u : ℕ) → Some how ≡ Some (resolved.Closed j u) → is_closing how ≡ true
-how_closes how j u e = let same : how ≡ resolved.Closed j u = some_same e in ap is_closing same
-  where
-    some_same : {A : Type 0} {a b : A} → Some a ≡ Some b → a ≡ b
-    some_same e = cc
+how_closes how j u e = let same : how ≡ resolved.Closed j u = same_Some _ _ e in ap is_closing same
 
 resolved_clause : (c : ℕ) (flag now : Bool) (how : Resolution) (o : Option Wait) → (flag ≡ true → now ≡ true)
     → (is_closing how ≡ true → (x : Wait) → o ≡ Some x → x.clauses ≡ (0, c) ∷ [] → now ≡ true) → OneClause c flag o
@@ -175,11 +168,7 @@ resolve_clause c flag now how w v s f g h e = by_test (same_wait w v) refl
 
 not_closing : (c : ℕ) (now : Bool) (how : Resolution) (o : Option Wait) → is_closing how ≡ false → is_closing how ≡ true → (x : Wait)
     → o ≡ Some x → x.clauses ≡ (0, c) ∷ [] → now ≡ true
-not_closing c now how o e f = absurd (contrary (is_closing how) f e)
-  where
-    contrary : (b : Bool) → b ≡ true → b ≡ false → ⊥
-    contrary true e f = cc
-    contrary false e f = cc
+not_closing c now how o e f = absurd (both_ways (is_closing how) e f)
 
 Ones : ℕ → State → Type 0
 Ones c s = (v : WaitId) → v.channel ≡ c → OneClause c (is_some (s.channels c).closed) (s.waits v)
@@ -345,19 +334,7 @@ settles_there c s who (Settle w (settled.Value n v)) shape need h e = cc
 settles_there c s who (Settle w (settled.Sent n)) shape need h e = cc
 settles_there c s who (Settle w settled.Cancelled) shape need h e = cc
 settles_there c s who (Settle w (settled.Undelivered v)) shape need h e = cc
-settles_there c s who (Hand d p v) shape need h e = cc
-settles_there c s who (Put d p v) shape need h e = cc
-settles_there c s who (Offer d p v w k) shape need h e = cc
-settles_there c s who (Await d p w k) shape need h e = cc
-settles_there c s who (Take d p v) shape need h e = cc
-settles_there c s who (Admit d p) shape need h e = cc
-settles_there c s who (Drop d p v) shape need h e = cc
-settles_there c s who (Spurn d p v) shape need h e = cc
-settles_there c s who (Close d v) shape need h e = cc
-settles_there c s who (Void d) shape need h e = cc
-settles_there c s who (Drain d p v) shape need h e = cc
-settles_there c s who (WakeClosed d p) shape need h e = cc
-settles_there c s who (Withdraw w why) shape need h e = cc
+settles_there c s who other shape need h e = cc
 
 closed_from : (shape : Shape) (c : ℕ) (s : State) (es : List Entry) → LegalFrom shape s es → is_some (s.channels c).closed ≡ true
     → is_some ((replay_from s es).channels c).closed ≡ true
@@ -415,12 +392,8 @@ later_all test u e es h = by_test (e.who == u) h
     by_test true g = (both_true (test e.act) (list_all test (acts_of u es)) g).1
     by_test false g = g
 
-and_true : (a b : Bool) → a ≡ true → b ≡ true → (a && b) ≡ true
-and_true true b e f = f
-and_true false b e f = cc
-
 pub all_from_each : (test : Act → Bool) (es : List Entry) → ((u : ℕ) → list_all test (acts_of u es) ≡ true)
     → list_all (λ (e : Entry). test e.act) es ≡ true
 all_from_each test [] h = refl
-all_from_each test (e ∷ es) h = and_true (test e.act) (list_all (λ (e : Entry). test e.act) es) (own_all test e es (h e.who))
+all_from_each test (e ∷ es) h = and_from (test e.act) (list_all (λ (e : Entry). test e.act) es) (own_all test e es (h e.who))
     (all_from_each test es (λ u. later_all test u e es (h u)))

@@ -1,13 +1,13 @@
 -- At the end of a run no channel has more elements than its kind keeps.
 use Rattle.std.proofs.Common.{◌≡◌, ℕ, zero, suc, ◌<◌, ◌≤◌, arith, length, Bool, true, false, ◌&&◌, List, [], ◌∷◌, ◌++◌, refl, ap, sym, ◌∙◌, subst, Some, None, if◌then◌else◌}
 use Rattle.std.specs.Prelude.{◌==◌, ◌+◌, nat_le, nat_lt, cond}
-use Rattle.std.proofs.lemmas.Bool.{eqb-true}
+use Rattle.std.proofs.lemmas.Bool.{eqb-true, both_ways, and_from, and_right, false_from_ne_true}
 use Rattle.std.proofs.lemmas.Bool.Decides.{nat_tests}
 use Rattle.channel_model.specs.declared.acts.Act.{Act}
 use Rattle.channel_model.specs.declared.acts.Act.TheVariants.{Hand, Put, Offer, Await, Take, Admit, Drop, Spurn, Close, Void, Drain, WakeClosed, Withdraw, Settle}
 use Rattle.channel_model.specs.declared.acts.Entry.{Entry}
 use Rattle.channel_model.specs.declared.acts.Kind.{Kind}
-use Rattle.channel_model.specs.declared.acts.Kind.TheVariants.{Rendezvous, Buffered, Unlimited, Conflated, DropOldest, DropLatest, Signal}
+use Rattle.channel_model.specs.declared.acts.Kind.TheVariants.{Rendezvous, Conflated, DropOldest}
 use Rattle.channel_model.specs.declared.standing.Standing.{Standing}
 use Rattle.channel_model.specs.Channels.{Shape, State, Channel, kind_at, drops, suspends}
 use Rattle.channel_model.specs.Effects.{after, is_open, place_offer, place_receiver}
@@ -26,7 +26,7 @@ use Rattle.script_meaning.proofs.Debts.{part}
 use Rattle.script_meaning.proofs.ActsFollowed.{Follows}
 use Rattle.script_meaning.proofs.ChannelStories.{who_did, deed}
 use Rattle.script_laws.proofs.ChannelDebts.{CallDebt, BehindOf, CallPaidAt, by_fact, nobody_owes, needs_there}
-use Rattle.script_laws.proofs.ClosedChannels.{Less, AllBefore, less_after, contrary, and_true}
+use Rattle.script_laws.proofs.ClosedChannels.{Less, AllBefore, less_after}
 use Rattle.script_grammar.proofs.Truths.{both_true}
 
 -- place q was given out, and up to it more elements stand than the kind keeps
@@ -62,22 +62,13 @@ all_placed shape es l = λ c. ascending_before 0 ((replay es).channels c).next (
 -- ---- kinds
 
 fewer_drop : (kind : Kind) (m n : ℕ) → m ≤ n → drops kind m ≡ true → drops kind n ≡ true
-fewer_drop Rendezvous m n h d = cc
-fewer_drop (Buffered k) m n h d = cc
-fewer_drop Unlimited m n h d = cc
 fewer_drop Conflated m n h d = grind (arith, nat_tests)
 fewer_drop (DropOldest k) m n h d = grind (arith, nat_tests)
-fewer_drop (DropLatest k) m n h d = cc
-fewer_drop Signal m n h d = cc
+fewer_drop other m n h d = cc
 
 none_drops : (kind : Kind) → drops kind 0 ≡ true → ⊥
-none_drops Rendezvous d = cc
-none_drops (Buffered k) d = cc
-none_drops Unlimited d = cc
-none_drops Conflated d = cc
 none_drops (DropOldest k) d = grind (arith, nat_tests)
-none_drops (DropLatest k) d = cc
-none_drops Signal d = cc
+none_drops other d = cc
 
 waiting_keeps : (kind : Kind) (n : ℕ) → suspends kind ≡ true → drops kind n ≡ true → ⊥
 waiting_keeps Rendezvous n s d = cc
@@ -88,8 +79,8 @@ waiting_keeps other n s d = cc
 drop_by_less : (kind : Kind) (q : ℕ) (a b : Channel) → Less a b → owes_drop kind q a ≡ false → owes_drop kind q b ≡ true → ⊥
 drop_by_less kind q a b h f t =
     let r = both_true (nat_lt q b.next) (drops kind (offers_up_to q b.queue)) t in
-    contrary (owes_drop kind q a) (and_true (nat_lt q a.next) (drops kind (offers_up_to q a.queue)) (ap (λ n. nat_lt q n) (sym h.next)
-    ∙ r.0) (fewer_drop kind (offers_up_to q b.queue) (offers_up_to q a.queue) (h.up_to q) r.1)) f
+    both_ways (owes_drop kind q a) f (and_from (nat_lt q a.next) (drops kind (offers_up_to q a.queue)) (ap (λ n. nat_lt q n) (sym h.next)
+    ∙ r.0) (fewer_drop kind (offers_up_to q b.queue) (offers_up_to q a.queue) (h.up_to q) r.1))
 
 last_up_to : (q : ℕ) (os : List Standing) (o : Standing) → nat_le o.place q ≡ false → offers_up_to q (os ++ o ∷ []) ≡ offers_up_to q os
 last_up_to q [] o h = at (nat_le o.place q) h
@@ -112,8 +103,8 @@ put_there kind q o ch e f t = at (o.place == q) refl
         let first : nat_lt q (ch.next + 1) ≡ true = parts.0 in
         let low : nat_lt q ch.next ≡ true = grind (arith, nat_tests) in
         let high : nat_le o.place q ≡ false = grind (arith, nat_tests) in
-        absurd (contrary (owes_drop kind q ch) (and_true (nat_lt q ch.next) (drops kind (offers_up_to q ch.queue)) low
-        (ap (λ n. drops kind n) (sym (last_up_to q ch.queue o high)) ∙ parts.1)) f)
+        absurd (both_ways (owes_drop kind q ch) f (and_from (nat_lt q ch.next) (drops kind (offers_up_to q ch.queue)) low
+        (ap (λ n. drops kind n) (sym (last_up_to q ch.queue o high)) ∙ parts.1)))
 
 drop_raised : (shape : Shape) (s : State) (who c q : ℕ) (act : Act) → Needs shape s who act
     → owes_drop (kind_at shape c) q (s.channels c) ≡ false → owes_drop (kind_at shape c) q ((after s who act).channels c) ≡ true
@@ -129,7 +120,7 @@ drop_raised shape s who c q (Put d r v) n f t = at (d == c) refl t
         (if b then place_offer true (record { place = r; value = v; holder = None }) (s.channels d) else s.channels c) ≡ true → (d ≡ c)
         × (r ≡ q)
     at true e t = (eqb-true d c e, there (eqb-true d c e) t)
-    at false e t = absurd (contrary (owes_drop (kind_at shape c) q (s.channels c)) t f)
+    at false e t = absurd (both_ways (owes_drop (kind_at shape c) q (s.channels c)) f t)
 drop_raised shape s who c q (Offer d r v w k) n f t = absurd (at (d == c) refl t)
   where
     at : (b : Bool) → (d == c) ≡ b → owes_drop (kind_at shape c) q
@@ -137,7 +128,7 @@ drop_raised shape s who c q (Offer d r v w k) n f t = absurd (at (d == c) refl t
         (s.channels d) else s.channels c) ≡ true → ⊥
     at true e t = waiting_keeps (kind_at shape c) _ (subst (λ u. suspends (kind_at shape u) ≡ true) (eqb-true d c e) n.3)
         (both_true _ _ t).1
-    at false e t = contrary (owes_drop (kind_at shape c) q (s.channels c)) t f
+    at false e t = both_ways (owes_drop (kind_at shape c) q (s.channels c)) f t
 drop_raised shape s who c q (Await d r w k) n f t = absurd (at (d == c) refl (is_open (s.waits w)) t)
   where
     none : (queue : List Standing) → queue ≡ [] → drops (kind_at shape c) (offers_up_to q queue) ≡ true → ⊥
@@ -148,21 +139,21 @@ drop_raised shape s who c q (Await d r w k) n f t = absurd (at (d == c) refl (is
         → ⊥
     at true e true t = none (s.channels d).queue n.2 (both_true _ _ t).1
     at true e false t = none (s.channels d).queue n.2 (both_true _ _ t).1
-    at false e o t = contrary (owes_drop (kind_at shape c) q (s.channels c)) t f
+    at false e o t = both_ways (owes_drop (kind_at shape c) q (s.channels c)) f t
 drop_raised shape s who c q (Close d v) n f t = absurd (at (d == c) refl t)
   where
     at : (b : Bool) → (d == c) ≡ b → owes_drop (kind_at shape c) q (if b then record (s.channels d) { closed = Some v } else s.channels c) ≡
         true → ⊥
-    at true e t = contrary (owes_drop (kind_at shape c) q (s.channels c))
-        (subst (λ u. owes_drop (kind_at shape c) q (s.channels u) ≡ true) (eqb-true d c e) t) f
-    at false e t = contrary (owes_drop (kind_at shape c) q (s.channels c)) t f
+    at true e t = both_ways (owes_drop (kind_at shape c) q (s.channels c)) f
+        (subst (λ u. owes_drop (kind_at shape c) q (s.channels u) ≡ true) (eqb-true d c e) t)
+    at false e t = both_ways (owes_drop (kind_at shape c) q (s.channels c)) f t
 drop_raised shape s who c q (Void d) n f t = absurd (at (d == c) refl t)
   where
     at : (b : Bool) → (d == c) ≡ b → owes_drop (kind_at shape c) q (if b then record (s.channels d) { voided = true } else s.channels c) ≡
         true → ⊥
-    at true e t = contrary (owes_drop (kind_at shape c) q (s.channels c))
-        (subst (λ u. owes_drop (kind_at shape c) q (s.channels u) ≡ true) (eqb-true d c e) t) f
-    at false e t = contrary (owes_drop (kind_at shape c) q (s.channels c)) t f
+    at true e t = both_ways (owes_drop (kind_at shape c) q (s.channels c)) f
+        (subst (λ u. owes_drop (kind_at shape c) q (s.channels u) ≡ true) (eqb-true d c e) t)
+    at false e t = both_ways (owes_drop (kind_at shape c) q (s.channels c)) f t
 drop_raised shape s who c q (Hand d p v) n f t = absurd
     (drop_by_less (kind_at shape c) q (s.channels c) _ (less_after s who (Hand d p v) refl c) f t)
 drop_raised shape s who c q (Take d p v) n f t = absurd
@@ -179,18 +170,15 @@ drop_raised shape s who c q (WakeClosed d p) n f t = absurd
     (drop_by_less (kind_at shape c) q (s.channels c) _ (less_after s who (WakeClosed d p) refl c) f t)
 drop_raised shape s who c q (Withdraw w why) n f t = absurd
     (drop_by_less (kind_at shape c) q (s.channels c) _ (less_after s who (Withdraw w why) refl c) f t)
-drop_raised shape s who c q (Settle w outcome) n f t = absurd (contrary (owes_drop (kind_at shape c) q (s.channels c)) t f)
-
-pub no_drop : (a b : Bool) → b ≡ false → (a && b) ≡ false
-no_drop true b h = h
-no_drop false b h = refl
+drop_raised shape s who c q (Settle w outcome) n f t = absurd (both_ways (owes_drop (kind_at shape c) q (s.channels c)) f t)
 
 drop_pays : (shape : Shape) (channels : List Entry) (c q k : ℕ) (act : Act) (before : List Entry) (ys : List Told)
     → BehindOf shape k channels before act ys → IsPutAt c q act → Follows act ys
     → CallPaidAt shape k (λ s. owes_drop (kind_at shape c) q (s.channels c)) (IsPutAt c q) channels (part who_did deed k before ++ act ∷ [])
 drop_pays shape channels c q k (Put d r v) before ys b e f =
     by_fact shape channels (λ s. owes_drop (kind_at shape c) q (s.channels c)) (IsPutAt c q) k (FitsUpTo d r)
-    (λ s h. no_drop (nat_lt q (s.channels c).next) _ (subst (λ u. drops (kind_at shape c) (offers_up_to u (s.channels c).queue) ≡ false) e.1
+    (λ s h. and_right (nat_lt q (s.channels c).next) _ (subst (λ u. drops (kind_at shape c) (offers_up_to u (s.channels c).queue) ≡ false)
+    e.1
     (subst (λ u. drops (kind_at shape u) (offers_up_to r (s.channels u).queue) ≡ false) e.0 h))) before (Put d r v) ys b f.0
 drop_pays shape channels c q k other before ys b e f = absurd e
 
@@ -205,7 +193,7 @@ drop_debt : (shape : Shape) (channels : List Entry) → Legal shape channels →
 drop_debt shape channels l c q = record {
   owes = λ s. owes_drop (kind_at shape c) q (s.channels c);
   Raises = IsPutAt c q;
-  first = no_drop (nat_lt q 0) (drops (kind_at shape c) 0) (drops_none (kind_at shape c));
+  first = and_right (nat_lt q 0) (drops (kind_at shape c) 0) (drops_none (kind_at shape c));
   rises = λ before e rest parts f t. drop_raised shape (replay before) e.who c q e.act (needs_there shape channels before e rest l parts) f
       t;
   pays = λ k before e rest ys parts mine owed behind r f. drop_pays shape channels c q k e.act before ys behind r f;
@@ -231,18 +219,14 @@ none_placed (o ∷ os) h = absurd (let k : o.place < 0 = h.0 in omega arith)
 fits : (kind : Kind) (ch : Channel) → IsPlaced ch → ((q : ℕ) → owes_drop kind q ch ≡ false) → drops kind (length ch.queue) ≡ false
 fits kind ch placed free = at ch.next refl
   where
-    is_false : (b : Bool) → (b ≡ true → ⊥) → b ≡ false
-    is_false true h = absurd (h refl)
-    is_false false h = refl
-
     at : (n : ℕ) → ch.next ≡ n → drops kind (length ch.queue) ≡ false
-    at zero e = is_false (drops kind (length ch.queue)) (λ d. none_drops kind
+    at zero e = false_from_ne_true (drops kind (length ch.queue)) (λ d. none_drops kind
         (subst (λ l. drops kind (length l) ≡ true) (none_placed ch.queue (subst (λ n. AllBefore n ch.queue) e placed)) d))
     at (suc n) e =
         let all : offers_up_to n ch.queue ≡ length ch.queue = all_up_to n ch.queue (subst (λ m. AllBefore m ch.queue) e placed) in
         let given : nat_lt n ch.next ≡ true = grind (arith, nat_tests) in
-        is_false (drops kind (length ch.queue)) (λ d. contrary (owes_drop kind n ch)
-        (and_true (nat_lt n ch.next) (drops kind (offers_up_to n ch.queue)) given (ap (λ m. drops kind m) all ∙ d)) (free n))
+        false_from_ne_true (drops kind (length ch.queue)) (λ d. both_ways (owes_drop kind n ch) (free n)
+        (and_from (nat_lt n ch.next) (drops kind (offers_up_to n ch.queue)) given (ap (λ m. drops kind m) all ∙ d)))
 
 abbrev pub FitsAtEnd : Type 0
 FitsAtEnd = (p : Program) (books : List (List Item)) (channels : List Entry) (jobs : List JobEntry) → BooksOf p books channels jobs

@@ -2,20 +2,20 @@
 use Rattle.std.proofs.Common.{◌≡◌, ℕ, ◌<◌, arith, length, Bool, true, false, not, ◌&&◌, List, [], ◌∷◌, ◌++◌, filter, refl, ap, sym, ◌∙◌, subst, Option, Some, None, if◌then◌else◌}
 use Rattle.std.specs.Prelude.{◌==◌, ◌+◌, ◌||◌, nat_lt, is_some, is_none}
 use Rattle.std.specs.List.{list_any, list_all}
-use Rattle.std.proofs.lemmas.Bool.{eqb-true, or_right}
+use Rattle.std.proofs.lemmas.Bool.{eqb-true, or_right, both_ways, and_from, and_right}
 use Rattle.std.proofs.lemmas.Bool.Decides.{nat_tests}
 use Rattle.co_base.specs.declared.names.WaitId.{WaitId}
 use Rattle.channel_model.specs.declared.acts.Act.{Act}
 use Rattle.channel_model.specs.declared.acts.Act.TheVariants.{Hand, Put, Offer, Await, Take, Admit, Drop, Spurn, Close, Void, Drain, WakeClosed, Withdraw, Settle}
 use Rattle.channel_model.specs.declared.acts.Entry.{Entry}
 use Rattle.channel_model.specs.declared.acts.Kind.{Kind}
-use Rattle.channel_model.specs.declared.acts.Kind.TheVariants.{Rendezvous, Buffered, Unlimited, Conflated, DropOldest, DropLatest, Signal}
+use Rattle.channel_model.specs.declared.acts.Kind.TheVariants.{Rendezvous, Buffered, Signal}
 use Rattle.channel_model.specs.declared.standing.Party.{Party}
 use Rattle.channel_model.specs.declared.standing.Standing.{Standing}
 use Rattle.channel_model.specs.declared.standing.Receiver.{Receiver}
 use Rattle.channel_model.specs.declared.standing.Resolution.{Resolution}
 use Rattle.channel_model.specs.declared.standing.Resolution.TheVariants as resolved
-use Rattle.channel_model.specs.Channels.{Shape, State, Channel, kind_at, is_full, suspends, drops, spurns}
+use Rattle.channel_model.specs.Channels.{Shape, State, Channel, kind_at, is_full, suspends}
 use Rattle.channel_model.specs.Effects.{after, is_open, is_elsewhere, spurned, is_held_by, admitted, place_offer, place_receiver, put_channel, resolve_first, resolve_holder, with_queue, remove_first, resolve_offer}
 use Rattle.channel_model.specs.Needs.{Needs}
 use Rattle.channel_model.specs.Owing.{owes_admission_below}
@@ -23,11 +23,12 @@ use Rattle.channel_model.specs.Histories.{replay, Legal}
 use Rattle.channel_model.specs.Laws.{Ascends as ChannelAscends}
 use Rattle.channel_model.proofs.InOrder.{replay_in_order}
 use Rattle.channel_model.proofs.Sound.{sound}
-use Rattle.script_laws.proofs.ClosedChannels.{AllBefore, contrary, and_true}
+use Rattle.script_laws.proofs.ClosedChannels.{AllBefore}
 use Rattle.script_grammar.proofs.Truths.{both_true}
 use Rattle.script_laws.proofs.QueuesFit.{all_placed}
 use Rattle.script_laws.proofs.OffersAdmitted.{held_before}
 use Rattle.script_laws.proofs.OffersAdmitted.{stands_held, owes_admit, MayRaiseAdmit, AdmitIsRaised}
+use Rattle.channel_model.proofs.PlacedFull.{drops_not, spurns_not}
 
 unfoldable pub AllBehind : ℕ → List Standing → Type 0
 AllBehind n [] = Unit {0}
@@ -40,11 +41,8 @@ Ascends (o ∷ os) = AllBehind o.place os × Ascends os
 one_full : (kind : Kind) (n : ℕ) → is_full kind (n + 1) ≡ false → is_full kind n ≡ false
 one_full Rendezvous n h = cc
 one_full (Buffered k) n h = grind (arith, nat_tests)
-one_full Unlimited n h = refl
-one_full Conflated n h = refl
-one_full (DropOldest k) n h = refl
-one_full (DropLatest k) n h = refl
 one_full Signal n h = cc
+one_full other n h = refl
 
 -- where some offer below the mark has room, there is room at the front, and the front is below the mark
 pub record FrontHasRoom (kind : Kind) (m n p : ℕ) : Type 0 where
@@ -251,7 +249,7 @@ tight_without kind w a = record {
   owes = λ q h t.
       let r = both_true (list_any (stands_held q) (filter (λ (o : Standing). not (is_held_by w o.holder)) a.queue))
       (owes_admission_below kind (q + 1) 0 (filter (λ (o : Standing). not (is_held_by w o.holder)) a.queue)) t in
-      and_true (list_any (stands_held q) a.queue) (owes_admission_below kind (q + 1) 0 a.queue)
+      and_from (list_any (stands_held q) a.queue) (owes_admission_below kind (q + 1) 0 a.queue)
       (filtered_stands q (λ (o : Standing). not (is_held_by w o.holder)) a.queue r.0)
       (filtered_owes kind (q + 1) 0 (λ (o : Standing). not (is_held_by w o.holder)) a.queue (held_removed w) h.ascends r.1);
 }
@@ -279,7 +277,7 @@ tight_admitted kind p a = record {
   ordered = λ h. record { ascends = ascends_admitted p a.queue h.ascends; none = λ s. none_admitted p a.queue (h.none s) };
   owes = λ q h t.
       let r = both_true (list_any (stands_held q) (admitted p a.queue)) (owes_admission_below kind (q + 1) 0 (admitted p a.queue)) t in
-      and_true (list_any (stands_held q) a.queue) (owes_admission_below kind (q + 1) 0 a.queue) (admitted_stands q p a.queue r.0)
+      and_from (list_any (stands_held q) a.queue) (owes_admission_below kind (q + 1) 0 a.queue) (admitted_stands q p a.queue r.0)
       (admitted_owes kind (q + 1) 0 p a.queue r.1);
 }
 
@@ -344,33 +342,25 @@ same_owes : (shape : Shape) (s : State) (c q d : ℕ) (ch : Channel) → ch.queu
 same_owes shape s c q d ch e f t = at (d == c) refl t
   where
     at : (b : Bool) → (d == c) ≡ b → owes_admit (kind_at shape c) q (if b then ch else s.channels c) ≡ true → ⊥
-    at true k t = contrary (owes_admit (kind_at shape c) q (s.channels c))
+    at true k t = both_ways (owes_admit (kind_at shape c) q (s.channels c)) f
         (subst (λ u. owes_admit (kind_at shape c) q (s.channels u) ≡ true) (eqb-true d c k)
-        (subst (λ l. (list_any (stands_held q) l && owes_admission_below (kind_at shape c) (q + 1) 0 l) ≡ true) e t)) f
-    at false k t = contrary (owes_admit (kind_at shape c) q (s.channels c)) t f
+        (subst (λ l. (list_any (stands_held q) l && owes_admission_below (kind_at shape c) (q + 1) 0 l) ≡ true) e t))
+    at false k t = both_ways (owes_admit (kind_at shape c) q (s.channels c)) f t
 
 no_holder : (q : ℕ) (o : Standing) → o.holder ≡ None → stands_held q o ≡ false
-no_holder q o e = at (o.place == q) (is_some o.holder) (ap is_some e)
-  where
-    at : (a b : Bool) → b ≡ false → (a && b) ≡ false
-    at true b h = h
-    at false b h = refl
+no_holder q o e = and_right (o.place == q) (is_some o.holder) (ap is_some e)
 
 -- an offer that comes last, at another place
 by_last : (kind : Kind) (q : ℕ) (b : Bool) (o : Standing) (ch : Channel) → AllBefore ch.next ch.queue → o.place ≡ ch.next
     → stands_held q o ≡ false → owes_admit kind q ch ≡ false → owes_admit kind q (place_offer b o ch) ≡ true → ⊥
-by_last kind q false o ch p e n f t = contrary (owes_admit kind q ch) t f
+by_last kind q false o ch p e n f t = both_ways (owes_admit kind q ch) f t
 by_last kind q true o ch p e n f t =
     let r = both_true (list_any (stands_held q) (ch.queue ++ o ∷ [])) (owes_admission_below kind (q + 1) 0 (ch.queue ++ o ∷ [])) t in
     let stands : list_any (stands_held q) ch.queue ≡ true = sym (last_stands q ch.queue o n) ∙ r.0 in
     let low : q < ch.next = held_before q ch.next ch.queue p stands in
     let high : nat_lt o.place (q + 1) ≡ false = grind (arith, nat_tests) in
-    contrary (owes_admit kind q ch) (and_true (list_any (stands_held q) ch.queue) (owes_admission_below kind (q + 1) 0 ch.queue) stands
-    (sym (last_owes kind (q + 1) 0 ch.queue o (both_false (is_some o.holder) (nat_lt o.place (q + 1)) high)) ∙ r.1)) f
-  where
-    both_false : (a b : Bool) → b ≡ false → (a && b) ≡ false
-    both_false true b h = h
-    both_false false b h = refl
+    both_ways (owes_admit kind q ch) f (and_from (list_any (stands_held q) ch.queue) (owes_admission_below kind (q + 1) 0 ch.queue) stands
+    (sym (last_owes kind (q + 1) 0 ch.queue o (and_right (is_some o.holder) (nat_lt o.place (q + 1)) high)) ∙ r.1))
 
 at_same : (shape : Shape) (s : State) (c q d : ℕ) (ch : Channel) → d ≡ c
     → owes_admit (kind_at shape c) q (put_channel d ch s.channels c) ≡ true → owes_admit (kind_at shape c) q ch ≡ true
@@ -394,10 +384,10 @@ at_other shape s c q d ch e t = at (d == c) e t
 elsewhere : (shape : Shape) (s : State) (c q d : ℕ) (qs : List Standing) (how : ℕ → Resolution) → AllOrdered shape s → (d == c) ≡ false
     → owes_admit (kind_at shape c) q (s.channels c) ≡ false → owes_admit (kind_at shape c) q ((resolve_offer d qs how s).channels c) ≡ true
     → ⊥
-elsewhere shape s c q d [] how h e f t = contrary (owes_admit (kind_at shape c) q (s.channels c)) t f
-elsewhere shape s c q d (o ∷ os) how h e f t = contrary (owes_admit (kind_at shape c) q (s.channels c))
+elsewhere shape s c q d [] how h e f t = both_ways (owes_admit (kind_at shape c) q (s.channels c)) f t
+elsewhere shape s c q d (o ∷ os) how h e f t = both_ways (owes_admit (kind_at shape c) q (s.channels c)) f
     (at_other shape s c q d (record (s.channels d) { queue = os }) e
-    ((tight_holder (kind_at shape c) o.holder how (with_queue d os s) c).owes q (there (d == c) e) t)) f
+    ((tight_holder (kind_at shape c) o.holder how (with_queue d os s) c).owes q (there (d == c) e) t))
   where
     there : (b : Bool) → b ≡ false → IsOrdered (kind_at shape c) (if b then record (s.channels d) { queue = os } else s.channels c)
     there true k = cc
@@ -411,26 +401,8 @@ by_channel P d c f g = at (d == c) refl
     at false e = f e
 
 none_room : (kind : Kind) (q : ℕ) (ch : Channel) → NoneHeld ch.queue → owes_admit kind q ch ≡ true → ⊥
-none_room kind q ch n t = contrary (list_any (stands_held q) ch.queue)
-    (both_true (list_any (stands_held q) ch.queue) (owes_admission_below kind (q + 1) 0 ch.queue) t).0 (no_stands q ch.queue n)
-
-dropping : (kind : Kind) (n : ℕ) → drops kind n ≡ true → suspends kind ≡ false
-dropping Rendezvous n d = cc
-dropping (Buffered k) n d = cc
-dropping Unlimited n d = cc
-dropping Conflated n d = refl
-dropping (DropOldest k) n d = refl
-dropping (DropLatest k) n d = cc
-dropping Signal n d = cc
-
-spurning : (kind : Kind) (n : ℕ) → spurns kind n ≡ true → suspends kind ≡ false
-spurning Rendezvous n d = cc
-spurning (Buffered k) n d = cc
-spurning Unlimited n d = cc
-spurning Conflated n d = cc
-spurning (DropOldest k) n d = cc
-spurning (DropLatest k) n d = refl
-spurning Signal n d = cc
+none_room kind q ch n t = both_ways (list_any (stands_held q) ch.queue) (no_stands q ch.queue n)
+    (both_true (list_any (stands_held q) ch.queue) (owes_admission_below kind (q + 1) 0 ch.queue) t).0
 
 filtered_none : (test : Standing → Bool) (os : List Standing) → NoneHeld os → NoneHeld (filter test os)
 unfolding NoneHeld
@@ -447,7 +419,7 @@ spurned_room : (shape : Shape) (s : State) (c q d p : ℕ) → NoneHeld (s.chann
 spurned_room shape s c q d p n f t =
     let ch = record (s.channels d) { queue = spurned p (s.channels d).queue } in
     by_channel ⊥ d c
-    (λ k. contrary (owes_admit (kind_at shape c) q (s.channels c)) (at_other shape s c q d ch k t) f)
+    (λ k. both_ways (owes_admit (kind_at shape c) q (s.channels c)) f (at_other shape s c q d ch k t))
     (λ k. none_room (kind_at shape c) q ch (filtered_none (is_elsewhere p) (s.channels d).queue n) (at_same shape s c q d ch k t))
 
 rest_none : (o : Standing) (os : List Standing) → NoneHeld (o ∷ os) → NoneHeld os
@@ -456,9 +428,9 @@ rest_none o os h = h.1
 
 removed_room : (shape : Shape) (s : State) (c q d : ℕ) (qs : List Standing) → (s.channels d).queue ≡ qs → NoneHeld (s.channels d).queue
     → owes_admit (kind_at shape c) q (s.channels c) ≡ false → owes_admit (kind_at shape c) q ((remove_first d qs s).channels c) ≡ true → ⊥
-removed_room shape s c q d [] e n f t = contrary (owes_admit (kind_at shape c) q (s.channels c)) t f
+removed_room shape s c q d [] e n f t = both_ways (owes_admit (kind_at shape c) q (s.channels c)) f t
 removed_room shape s c q d (o ∷ os) e n f t = by_channel ⊥ d c
-    (λ k. contrary (owes_admit (kind_at shape c) q (s.channels c)) (at_other shape s c q d (record (s.channels d) { queue = os }) k t) f)
+    (λ k. both_ways (owes_admit (kind_at shape c) q (s.channels c)) f (at_other shape s c q d (record (s.channels d) { queue = os }) k t))
     (λ k. none_room (kind_at shape c) q (record (s.channels d) { queue = os }) (rest_none o os (subst NoneHeld e n))
     (at_same shape s c q d (record (s.channels d) { queue = os }) k t))
 
@@ -466,16 +438,15 @@ room_raised : (shape : Shape) (s : State) (who c q : ℕ) (act : Act) → ((u : 
     → AllOrdered shape s → Needs shape s who act → owes_admit (kind_at shape c) q (s.channels c) ≡ false
     → owes_admit (kind_at shape c) q ((after s who act).channels c) ≡ true → MayRaiseAdmit c q act
 room_raised shape s who c q (Put d r v) p h n f t = absurd (by_channel ⊥ d c
-    (λ k. contrary (owes_admit (kind_at shape c) q (s.channels c))
-    (at_other shape s c q d (place_offer true (record { place = r; value = v; holder = None }) (s.channels d)) k t) f)
+    (λ k. both_ways (owes_admit (kind_at shape c) q (s.channels c)) f
+    (at_other shape s c q d (place_offer true (record { place = r; value = v; holder = None }) (s.channels d)) k t))
     (λ k. by_last (kind_at shape c) q true (record { place = r; value = v; holder = None }) (s.channels d) (p d) n.1.first
     (no_holder q (record { place = r; value = v; holder = None }) refl)
     (subst (λ u. owes_admit (kind_at shape c) q (s.channels u) ≡ false) (sym k) f)
     (at_same shape s c q d (place_offer true (record { place = r; value = v; holder = None }) (s.channels d)) k t)))
 room_raised shape s who c q (Offer d r v w i) p h n f t = by_channel ((d ≡ c) × (r ≡ q)) d c
-    (λ k. absurd (contrary (owes_admit (kind_at shape c) q (s.channels c))
-    (at_other shape s c q d (place_offer (is_open (s.waits w))
-    (record { place = r; value = v; holder = Some (record { wait = w; clause = i }) }) (s.channels d)) k t) f))
+    (λ k. absurd (both_ways (owes_admit (kind_at shape c) q (s.channels c)) f (at_other shape s c q d (place_offer (is_open (s.waits w))
+    (record { place = r; value = v; holder = Some (record { wait = w; clause = i }) }) (s.channels d)) k t)))
     (λ k. by_channel ((d ≡ c) × (r ≡ q)) r q
     (λ m. absurd (by_last (kind_at shape c) q (is_open (s.waits w))
     (record { place = r; value = v; holder = Some (record { wait = w; clause = i }) }) (s.channels d) (p d) n.1.first
@@ -494,25 +465,24 @@ room_raised shape s who c q (Await d r w i) p h n f t =
 room_raised shape s who c q (Close d v) p h n f t = absurd (same_owes shape s c q d (record (s.channels d) { closed = Some v }) refl f t)
 room_raised shape s who c q (Void d) p h n f t = absurd (same_owes shape s c q d (record (s.channels d) { voided = true }) refl f t)
 room_raised shape s who c q (Hand d r v) p h n f t = absurd
-    (contrary (owes_admit (kind_at shape c) q (s.channels c))
-    ((tight_first (kind_at shape c) (s.channels d).receivers (λ k. resolved.Handed k v) s c).owes q (h c) t) f)
+    (both_ways (owes_admit (kind_at shape c) q (s.channels c)) f
+    ((tight_first (kind_at shape c) (s.channels d).receivers (λ k. resolved.Handed k v) s c).owes q (h c) t))
 room_raised shape s who c q (WakeClosed d r) p h n f t =
-    absurd (contrary (owes_admit (kind_at shape c) q (s.channels c))
-    ((tight_first (kind_at shape c) (s.channels d).receivers
-    (λ k. resolved.Closed k (Rattle.channel_model.specs.Effects.close_value (s.channels d).closed)) s c).owes q (h c) t) f)
+    absurd (both_ways (owes_admit (kind_at shape c) q (s.channels c)) f ((tight_first (kind_at shape c) (s.channels d).receivers
+    (λ k. resolved.Closed k (Rattle.channel_model.specs.Effects.close_value (s.channels d).closed)) s c).owes q (h c) t))
 room_raised shape s who c q (Withdraw w why) p h n f t =
-    absurd (contrary (owes_admit (kind_at shape c) q (s.channels c)) ((tight_without (kind_at shape c) w (s.channels c)).owes q (h c) t) f)
+    absurd (both_ways (owes_admit (kind_at shape c) q (s.channels c)) f ((tight_without (kind_at shape c) w (s.channels c)).owes q (h c) t))
 room_raised shape s who c q (Admit d r) p h n f t = absurd
-    (contrary (owes_admit (kind_at shape c) q (s.channels c)) ((tight_admit (kind_at shape c) s who d r c).owes q (h c) t) f)
+    (both_ways (owes_admit (kind_at shape c) q (s.channels c)) f ((tight_admit (kind_at shape c) s who d r c).owes q (h c) t))
 room_raised shape s who c q (Take d r v) p h n f t = by_channel (d ≡ c) d c
     (λ k. absurd (elsewhere shape s c q d (s.channels d).queue resolved.Taken h k f t)) (λ k. k)
 room_raised shape s who c q (Drain d r v) p h n f t = by_channel (d ≡ c) d c
     (λ k. absurd (elsewhere shape s c q d (s.channels d).queue (λ i. resolved.Voided) h k f t)) (λ k. k)
 room_raised shape s who c q (Drop d r v) p h n f t = absurd
-    (removed_room shape s c q d (s.channels d).queue refl ((h d).none (dropping (kind_at shape d) (length (s.channels d).queue) n.1)) f t)
+    (removed_room shape s c q d (s.channels d).queue refl ((h d).none (drops_not (kind_at shape d) (length (s.channels d).queue) n.1)) f t)
 room_raised shape s who c q (Spurn d r v) p h n f t = absurd
-    (spurned_room shape s c q d r ((h d).none (spurning (kind_at shape d) (s.stood d r) n.1)) f t)
-room_raised shape s who c q (Settle w outcome) p h n f t = absurd (contrary (owes_admit (kind_at shape c) q (s.channels c)) t f)
+    (spurned_room shape s c q d r ((h d).none (spurns_not (kind_at shape d) (s.stood d r) n.1)) f t)
+room_raised shape s who c q (Settle w outcome) p h n f t = absurd (both_ways (owes_admit (kind_at shape c) q (s.channels c)) f t)
 
 pub admit_is_raised : AdmitIsRaised
 admit_is_raised shape es who c q act l n f t = room_raised shape (replay es) who c q act (all_placed shape es l) (all_ordered shape es l) n

@@ -3,7 +3,7 @@
 use Rattle.std.specs.Prelude.{◌≡◌, ℕ, zero, suc, ◌+◌, ◌<◌, ◌≤◌, ◌==◌, ◌⊎◌, Bool, true, false, not, ◌||◌, ◌&&◌, List, [], ◌∷◌, length, slice_get, if◌then◌else◌, MatchBool, refl}
 use Rattle.std.specs.List.{list_any}
 use Rattle.std.proofs.Common.{ap, ◌∙◌, subst, inl, inr, arith}
-use Rattle.std.proofs.lemmas.Bool.{eqb-true}
+use Rattle.std.proofs.lemmas.Bool.{eqb-true, and_parts, and_right}
 use Rattle.std.proofs.lemmas.Bool.Decides.{nat_tests}
 use Rattle.job_model.specs.declared.acts.JobAct.{JobAct}
 use Rattle.job_model.specs.declared.acts.JobAct.TheVariants.{Attach, Start, EndBody, Cancel, Finish, Gone}
@@ -167,17 +167,9 @@ rows_few from n (act ∷ acts) =
     one_row (Attach p q kind tag cancelled) = by_kind kind.scoped
       where
         by_kind : (s : Bool) → count_from from n (λ r. (r == q) && s) ≤ (if s then 1 else 0)
-        by_kind true = let less = count_more from n (λ r. (r == q) && true) (λ r. r == q) (λ r le e. only (r == q) e)
+        by_kind true = let less = count_more from n (λ r. (r == q) && true) (λ r. r == q) (λ r le e. (and_parts (r == q) _ e).0)
             in let few = count_same from n q in omega (arith, less, few)
-          where
-            only : (b : Bool) → (b && true) ≡ true → b ≡ true
-            only true e = refl
-            only false e = e
-        by_kind false = let none = count_none from n (λ r. (r == q) && false) (λ r le. off (r == q)) in omega (arith, none)
-          where
-            off : (b : Bool) → (b && false) ≡ false
-            off true = refl
-            off false = refl
+        by_kind false = let none = count_none from n (λ r. (r == q) && false) (λ r le. and_right (r == q) false refl) in omega (arith, none)
     one_row (Start q) = let none = count_none from n (λ r. false) (λ r le. refl) in omega (arith, none)
     one_row other = let none = count_none from n (λ r. false) (λ r le. refl) in omega (arith, none)
 

@@ -2,14 +2,14 @@
 use Rattle.std.proofs.Common.{◌≡◌, ℕ, Bool, true, false, List, [], ◌∷◌, ◌++◌, refl, ap, sym, ◌∙◌, subst, inl, inr, ◌⊎◌, ⊎_elim, append_assoc, Option, Some, None}
 use Rattle.std.specs.Prelude.{map, ◌+◌}
 use Rattle.channel_model.specs.declared.acts.Act.{Act}
-use Rattle.channel_model.specs.declared.acts.Act.TheVariants.{Hand, Put, Offer, Await, Take, Admit, Drop, Spurn, Close, Void, Drain, WakeClosed, Withdraw, Settle}
+use Rattle.channel_model.specs.declared.acts.Act.TheVariants.{Hand, Put, Offer, Take, Admit, Drop, Spurn, Close, Void, Drain, WakeClosed}
 use Rattle.channel_model.specs.declared.acts.ChannelNote.{ChannelNote}
 use Rattle.channel_model.specs.declared.acts.ChannelNote.TheVariants as of_channel
 use Rattle.job_model.specs.declared.acts.JobAct.{JobAct}
 use Rattle.job_model.specs.Cancels.{own_cancel}
 use Rattle.note_book.specs.declared.book.Item.{Item}
 use Rattle.note_book.specs.declared.book.Item.TheVariants as item
-use Rattle.call_meaning.specs.Telling.{Told, note, on_channels, on_jobs, NextIs, NoneToAdmit, FitsUpTo, StandsWithRoom, NoReceiver, NothingQueued, IsVoided, did, made, heard}
+use Rattle.call_meaning.specs.Telling.{Told, note, on_channels, NextIs, NoneToAdmit, FitsUpTo, StandsWithRoom, NoReceiver, NothingQueued, IsVoided, did, made, heard}
 use Rattle.call_meaning.specs.ChannelCalls.{Call, sends, receives, Answer, PlainCall, TryCall, SelectCall, Admits, Drops, Spurns, Overflows, Wakes, Drains, Closes, CancelsChannel, AtOnce, Refused, TryRefused, blocked, spent, EndsAtOnce, Places, AdmitsIn, GivesUp, Stops, wait_at, revoked}
 use Rattle.call_meaning.specs.JobCalls.{NotAttached, Starts, Passes, Breaks, Chain, EndsBody, BreaksOff}
 use Rattle.script_grammar.specs.Programs.{Program}
@@ -32,25 +32,18 @@ act_in_item (item.Job n) = None
 
 abbrev pub call_told : Told → Option Act
 call_told (note i) = act_in_item i
-call_told (on_channels fact) = None
-call_told (on_jobs fact) = None
+call_told other = None
 
 -- acts after which nothing new is owed, wherever they come
 abbrev pub is_plain : Act → Bool
-is_plain (Hand c q v) = true
 is_plain (Put c q v) = false
 is_plain (Offer c q v w n) = false
-is_plain (Await c q w n) = true
 is_plain (Take c q v) = false
-is_plain (Admit c q) = true
 is_plain (Drop c q v) = false
-is_plain (Spurn c q v) = true
 is_plain (Close c v) = false
 is_plain (Void c) = false
 is_plain (Drain c q v) = false
-is_plain (WakeClosed c q) = true
-is_plain (Withdraw w why) = true
-is_plain (Settle w outcome) = true
+is_plain other = true
 
 abbrev pub is_still : Option Act → Bool
 is_still None = true
@@ -315,10 +308,9 @@ places_followed w _ _ _ between admits (Places.one n q (sends c v) calls later p
     (subst (λ l. AllFollowed (later ++ l)) (append_assoc between mine others) all))
 
 stops_followed : (call : Call) (g : List Told) (a : Answer) → Stops call g a → AllFollowed g
-stops_followed _ _ _ (Stops.receiver c v q) = still _ _ refl (lone _ refl)
-stops_followed _ _ _ (Stops.offer c q) = still _ _ refl (lone _ refl)
 stops_followed _ _ _ (Stops.closed call t a h) = lone t (refused_still call t a h)
 stops_followed _ _ _ (Stops.no_place call all e) = subst AllFollowed (sym e) (spent_followed call)
+stops_followed _ _ _ other = still _ _ refl (lone _ refl)
 
 passed : (calls : List Call) → AllFollowed (map blocked calls)
 passed calls = quiet_followed _ (quiet_map blocked calls blocked_still)
@@ -357,11 +349,10 @@ select_followed calls _ _ (SelectCall.stops_late w before later call group stop 
     ∙ sym (append_assoc group stop (heard (of_channel.Late w) ∷ admits))) body))
 
 gives_up_followed : (w : _) (g : List Told) → GivesUp w g → AllFollowed g
-gives_up_followed w _ GivesUp.dispatched = lone _ refl
-gives_up_followed w _ (GivesUp.undelivered v) = lone _ refl
 gives_up_followed w _ (GivesUp.withdrawn admits h) = still _ _ refl (still _ admits refl (admits_quiet _ admits h))
 gives_up_followed w _ (GivesUp.late admits h) = still _ _ refl (still _ admits refl (admits_quiet _ admits h))
 gives_up_followed w _ (GivesUp.late_undelivered v admits h) = still _ _ refl (still _ admits refl (admits_quiet _ admits h))
+gives_up_followed w _ other = lone _ refl
 
 -- ---- Jobs say nothing of channels but their done ones
 
@@ -374,9 +365,8 @@ deeds_followed [] t h = lone t h
 deeds_followed (a ∷ acts) t h = still _ _ refl (deeds_followed acts t h)
 
 refusal_followed : (parent : ℕ) (b : Bool) (g : List Told) → NotAttached parent b g → AllFollowed g
-refusal_followed parent _ _ NotAttached.no_row = lone _ refl
-refusal_followed parent _ _ NotAttached.used = lone _ refl
 refusal_followed parent _ _ (NotAttached.parent_ended b) = still _ _ refl (lone _ refl)
+refusal_followed parent _ _ other = lone _ refl
 
 starts_followed : (row : ℕ) (g : List Told) → Starts row g → AllFollowed g
 starts_followed row _ Starts.now = still _ _ refl (lone _ refl)
@@ -422,25 +412,16 @@ line_followed p k x _ _ _ (LineCalls.join job row g a n h) = still _ g refl (bot
 line_followed p k x _ _ _ (LineCalls.await job row g a n h) = both_followed p row g a h
 
 pub move_followed : (p : Program) (k : ℕ) (x y : Config) (g : List Told) → Move p k x g y → AllFollowed g
-move_followed p k _ _ _ (Move.runs x s) = lone _ refl
-move_followed p k _ _ _ (Move.never_runs x s) = lone _ refl
 move_followed p k _ _ _ (Move.calls x y i g a s h f) = line_followed p k x i g a h
 move_followed p k _ _ _ (Move.resumes x y w i outcome a s l r f) = still _ _ refl (still _ _ refl (lone _ refl))
 move_followed p k _ _ _ (Move.cancelled x w s) = still _ _ refl (lone _ refl)
 move_followed p k _ _ _ (Move.gives_up x w g s h) = still _ g refl (gives_up_followed w g h)
-move_followed p k _ _ _ (Move.sees_job x y job row end s l n f) = lone _ refl
 move_followed p k _ _ _ (Move.closes x c g s h) = closes_followed c 0 g h
 move_followed p k _ _ _ (Move.cancels_channel x c g s h) = cancels_followed c g h
-move_followed p k _ _ _ (Move.yields x s) = lone _ refl
-move_followed p k _ _ _ (Move.stops_at_yield x s) = lone _ refl
-move_followed p k _ _ _ (Move.stops_at_join x job s) = lone _ refl
-move_followed p k _ _ _ (Move.launches x block how job now s) = lone _ refl
 move_followed p k _ _ _ (Move.launch_refused x block how job g s h) = refusal_followed _ _ g h
-move_followed p k _ _ _ (Move.enters x supervisor row now s) = lone _ refl
 move_followed p k _ _ _ (Move.enter_refused x supervisor g s h) = refusal_followed _ _ g h
 move_followed p k _ _ _ (Move.starts x job row g s n h) = starts_followed row g h
 move_followed p k _ _ _ (Move.cancels x job row newly g s n h) = passes_followed row _ newly g h
-move_followed p k _ _ _ (Move.fails x v s) = lone _ refl
 move_followed p k _ _ _ (Move.results x o s) = nothing
 move_followed p k _ _ _ (Move.repeats x n s) = nothing
 move_followed p k _ _ _ (Move.turns_again x head n es s e) = nothing
@@ -448,12 +429,11 @@ move_followed p k _ _ _ (Move.turns_no_more x head es s e) = nothing
 move_followed p k _ _ _ (Move.receives_again x head es s e) = nothing
 move_followed p k _ _ _ (Move.ends_scope x y s end g all a l e h c f q) =
     subst AllFollowed (sym q) (followed_then end g (end_followed p s.row 0 end h) (plain_call_followed _ g a c))
-move_followed p k _ _ _ (Move.scope_ended x w n v s) = lone _ refl
-move_followed p k _ _ _ (Move.sees_scope x y s end l e f) = lone _ refl
 move_followed p k _ _ _ (Move.breaks_scope x y s failure break g all a l e h c f q) =
     subst AllFollowed (sym q) (followed_then break g (off_followed p k s.row failure break h) (plain_call_followed _ g a c))
 move_followed p k _ _ _ (Move.breaks x failure g s e h) = off_followed p k k failure g h
 move_followed p k _ _ _ (Move.ends x g s e h) = end_followed p k x.result g h
+move_followed p k _ _ _ other = lone _ refl
 
 spawn_followed : (p : Program) (blocks : List ℕ) (x y : Config) (g : List Told) → Spawns p blocks x g y → AllFollowed g
 spawn_followed p _ _ _ _ (Spawns.done x) = nothing

@@ -31,12 +31,10 @@ is_attach other = false
 -- a Job was attached, or refused
 abbrev pub note_attaches : JobNote → Bool
 note_attaches (known.Made act) = is_attach act
-note_attaches (known.Saw row) = false
-note_attaches (known.SawEnd row end) = false
-note_attaches (known.Fail v) = false
 note_attaches known.NoRow = true
 note_attaches known.Used = true
 note_attaches known.ParentEnded = true
+note_attaches other = false
 
 abbrev pub item_attaches : Item → Bool
 item_attaches (item.Channel n) = false
@@ -171,10 +169,9 @@ admits_in_none _ _ (AdmitsIn.awaited c calls all h) = admits_in_none calls all h
 
 stops_none : (call : Call) (group : List Told) (a : Answer) → Stops call group a → attach_in group ≡ false
 unfolding items_in
-stops_none _ _ _ (Stops.receiver c v q) = refl
-stops_none _ _ _ (Stops.offer c q) = refl
 stops_none _ _ _ (Stops.closed call told a h) = refused_none call told a h
 stops_none _ _ _ (Stops.no_place call all e) = ap attach_in e ∙ spent_none call
+stops_none _ _ _ other = refl
 
 select_none : (calls : List Call) (group : List Told) (a : Answer) → SelectCall calls group a → attach_in group ≡ false
 unfolding items_in
@@ -202,11 +199,10 @@ select_none calls _ _ (SelectCall.stops_late w before later call group stop admi
 
 pub gives_up_none : (w : WaitId) (group : List Told) → GivesUp w group → attach_in group ≡ false
 unfolding items_in
-gives_up_none w _ GivesUp.dispatched = refl
-gives_up_none w _ (GivesUp.undelivered v) = refl
 gives_up_none w _ (GivesUp.withdrawn admits h) = admits_none w.channel admits h
 gives_up_none w _ (GivesUp.late admits h) = admits_none w.channel admits h
 gives_up_none w _ (GivesUp.late_undelivered v admits h) = admits_none w.channel admits h
+gives_up_none w _ other = refl
 
 -- ---- Jobs
 

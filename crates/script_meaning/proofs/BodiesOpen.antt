@@ -2,9 +2,8 @@
 -- leaves a scope; and it may cancel that Job for the reason for which it unwinds.
 use Rattle.std.specs.Prelude.{◌≡◌, ℕ, ◌<◌, ◌≤◌, ◌==◌, ◌⊎◌, Bool, true, false, ◌&&◌, ◌||◌, List, [], ◌∷◌, ◌++◌, Option, Some, None, is_some, slice_get, if◌then◌else◌, refl}
 use Rattle.std.specs.List.{list_any}
-use mathlib.Core.List.{IsPrefix}
 use Rattle.std.proofs.Common.{sym, ap, ◌∙◌, subst, arith, inl, inr, ⊎_elim}
-use Rattle.std.proofs.lemmas.Bool.{eq-eqb}
+use Rattle.std.proofs.lemmas.Bool.{eq-eqb, or_right}
 use Rattle.channel_model.specs.Floors.{Floor as ChannelFloor}
 use Rattle.job_model.specs.declared.acts.Cause.TheVariants as because
 use Rattle.job_model.specs.declared.acts.End.TheVariants as ends
@@ -37,16 +36,17 @@ use Rattle.script_meaning.specs.declared.stage.Stage.TheVariants.{Unwinding}
 use Rattle.script_meaning.specs.Shapes.{job_shape}
 use Rattle.script_meaning.specs.Configs.{Config, InScope, scope_in, row_or, innermost}
 use Rattle.script_meaning.specs.Books.{Runs, story}
-use Rattle.script_meaning.specs.Idle.{IsNotStarted}
 use Rattle.script_meaning.specs.Polls.{Frame, StandsOn}
 use Rattle.script_meaning.specs.Bodies.{is_over, is_fresh, is_leaving, IsOwnRow, HasBodyAt}
 use Rattle.script_meaning.proofs.BodiesTold.{acts_told, ends_in, scope_rows, first_or, IsOwnScope, AreEntered, HasBegun, FailedBy, UnwindsBy}
 use Rattle.script_meaning.proofs.JobDebts.{AllKnown, parents_in, all_known}
 use Rattle.script_meaning.proofs.JobStories.{true_so}
-use Rattle.script_meaning.proofs.OwnActs.{AllMayCome, all_placed, OwnJobEntry, own_entry, attached_keeps, attached_within}
-use Rattle.script_meaning.proofs.OwnRows.{failure_lasts, any_here, own_tag, owns_body, may_end_body, running_not_new, cancelling_not_new, not_new_attached, not_new_started}
+use Rattle.script_meaning.proofs.OwnActs.{AllMayCome, all_placed, OwnJobEntry, own_entry, attached_keeps}
+use Rattle.script_meaning.proofs.OwnRows.{any_here, own_tag, owns_body, may_end_body, running_not_new, cancelling_not_new, not_new_attached}
 use Rattle.script_meaning.proofs.ScopesEntered.{AreLegal, HasEntered, reach_ends, reach_scopes, innermost_first, found_rows}
 use Rattle.script_meaning.proofs.StagesReached.{reach_begun, reach_fails, reach_rows, reach_low}
+use Rattle.job_model.proofs.Reasons.{failure_lasts}
+use Rattle.job_model.proofs.Short.{attached_within}
 
 -- the history has just the acts of the book, which its coroutine may have written
 pub record Knows (p : Program) (k : ℕ) (now : Moment) (book : List Item) (x : Config) : Type 0 where
@@ -162,15 +162,6 @@ scope_here p k now book x s h e =
     let first = first_entered (job_shape p) k h.runs.told (is_leaving x.stage) s.row (scope_rows s.around) entered in
     subst (λ z. IsScopeUnder p k now z s.row) (sym (innermost_first k (record x { entered = s.around })))
     (scope_known p k now book x h (first_or k (scope_rows s.around)) s.row first.0)
-
--- its body has ended exactly where the scope is left
-pub scope_ended : (p : Program) (k : ℕ) (now : Moment) (book : List Item) (x : Config) (s : InScope) → Knows p k now book x
-    → scope_in x.entered ≡ Some s → list_any (ends_body s.row) (acts_of k now.jobs) ≡ is_leaving x.stage
-scope_ended p k now book x s h e =
-    let entered : AreEntered (job_shape p) k h.runs.told (is_leaving x.stage) (s.row ∷ scope_rows s.around) =
-    subst (AreEntered (job_shape p) k h.runs.told (is_leaving x.stage)) (found_rows x.entered s e) (runs_scopes p k now book x h) in
-    ap (list_any (ends_body s.row)) (acts_same p k now book x h)
-    ∙ (first_entered (job_shape p) k h.runs.told (is_leaving x.stage) s.row (scope_rows s.around) entered).1
 
 -- ---- the innermost Job
 
@@ -299,20 +290,16 @@ pub failure_known : (p : Program) (k : ℕ) (now : Moment) (book : List Item) (x
 failure_known p k now book x f h e = saw_ended p k now book x h f
     (subst (UnwindsBy k h.runs.told) e (reach_fails p k h.runs.told x h.runs.reaches))
 
-or_true : (a b : Bool) → b ≡ true → (a || b) ≡ true
-or_true true b e = refl
-or_true false b e = e
-
 -- it may cancel its innermost Job for the reason for which it unwinds
 pub innermost_reason : (p : Program) (k : ℕ) (now : Moment) (book : List Item) (x : Config) (failure : Option ℕ) → Knows p k now book x
     → x.stage ≡ Unwinding failure → Holds (job_shape p) (replay now.jobs) k (innermost k x) (reason_for failure)
 innermost_reason p k now book x None h e = tt
 innermost_reason p k now book x (Some f) h e = (
   innermost_tag p k now book x h (ap is_fresh e),
-  or_true (f == innermost k x) _
+  or_right (f == innermost k x) _
       (⊎_elim
       (λ (z : f ≡ k). ap (λ b. b || any_below (job_count p) (λ q. ended_by_failure f (replay now.jobs q))) (eq-eqb f k z))
-      (λ (z : EndedBy p now f). or_true (f == k) _ (any_here (job_count p) z.row (λ q. ended_by_failure f (replay now.jobs q)) z.within
+      (λ (z : EndedBy p now f). or_right (f == k) _ (any_here (job_count p) z.row (λ q. ended_by_failure f (replay now.jobs q)) z.within
       z.ended))
       (failure_known p k now book x f h e)),
 )
@@ -333,7 +320,7 @@ any_of_own t who (e ∷ es) h = by_test (e.who == who) h (any_of_own t who es)
         → (list_any t (acts_of who es) ≡ true → list_any (λ (e : JobEntry). t e.act) es ≡ true)
         → (t e.act || list_any (λ (e : JobEntry). t e.act) es) ≡ true
     by_test true k more = carry (t e.act) _ _ more k
-    by_test false k more = or_true (t e.act) _ (more k)
+    by_test false k more = or_right (t e.act) _ (more k)
 
 -- the Job of a name was attached, and is that of a coroutine
 pub named_attached : (p : Program) (k : ℕ) (now : Moment) (book : List Item) (x : Config) (i r : ℕ) → Knows p k now book x
@@ -342,7 +329,7 @@ named_attached p k now book x i r h at =
     let own : list_any (attaches r) (acts_of k now.jobs) ≡ true = ap (list_any (attaches r)) (acts_same p k now book x h)
     ∙ reach_rows p k h.runs.told x i r h.runs.reaches at in (
       (by_entries (job_shape p) now.jobs r h.legal).attached
-          ∙ or_true (r == 0) (has attaches r now.jobs) (any_of_own (attaches r) k now.jobs own),
+          ∙ or_right (r == 0) (has attaches r now.jobs) (any_of_own (attaches r) k now.jobs own),
       reach_low p k (job_shape p) h.runs.told x i r (runs_legal p k now book x h) h.runs.reaches at,
     )
 
@@ -351,18 +338,3 @@ named_attached p k now book x i r h at =
 pub stands_knows : (p : Program) (c : ChannelFloor) (j : Floor) (f : Frame) → Legal j.shape j.seen → StandsOn p c j f
     → Knows p f.tag (seen_by c j) f.book f.config
 stands_knows p c j f l h = record { legal = subst (λ s. Legal s j.seen) h.jobs l; acts = h.job_acts; runs = h.runs; low = h.in_run }
-
--- its innermost Job has its body, also before it has begun
-pub stands_body : (p : Program) (c : ChannelFloor) (j : Floor) (f : Frame) → Legal j.shape j.seen → StandsOn p c j f
-    → is_leaving f.config.stage ≡ false → is_over f.config.stage ≡ false → HasBodyAt f.tag (innermost f.tag f.config) j
-stands_body p c j f l h leaves over = innermost_body p f.tag (seen_by c j) f.book f.config j (stands_knows p c j f l h) refl h.jobs
-    h.of_jobs leaves over
-
--- once it has begun its innermost Job is not seen New at any later moment
-pub never_new : (p : Program) (c : ChannelFloor) (j : Floor) (f : Frame) (shape : Shape) (at : List JobEntry) → Legal j.shape j.seen
-    → StandsOn p c j f → is_fresh f.config.stage ≡ false → Legal shape at → IsPrefix j.seen at
-    → IsNotStarted (replay at (innermost f.tag f.config)) → ⊥
-never_new p c j f shape at l h e l' longer n =
-    not_new_started (replay at (innermost f.tag f.config))
-    (prefix_keeps IsNotNew not_new_lasts shape j.seen at (innermost f.tag f.config) l' longer
-    (innermost_live p f.tag (seen_by c j) f.book f.config (stands_knows p c j f l h) e)) n

@@ -29,9 +29,8 @@ abbrev pub deed : Entry → Act
 deed e = e.act
 
 abbrev pub FactHolds : Shape → Told → State → Type 0
-FactHolds shape (note i) s = Unit {0}
 FactHolds shape (on_channels fact) s = ChannelFactHolds shape fact s
-FactHolds shape (on_jobs fact) s = Unit {0}
+FactHolds shape other s = Unit {0}
 
 -- what a told thing says of the channels
 abbrev pub CallHolds : Shape → Told → List Entry → Type 0
@@ -60,13 +59,11 @@ told_acts : (t : Told) (items : List Item) → channel_acts_in (with_told t item
 told_acts (note (item.Job n)) items = channel_acts_in-append items (item.Job n ∷ [])
 told_acts (note (item.Channel n)) items = channel_acts_in-append items (item.Channel n ∷ [])
     ∙ ap (λ l. channel_acts_in items ++ l) (append-nil (channel_act n) ∙ act_of_note n)
-told_acts (on_channels fact) items = sym (append-nil (channel_acts_in items))
-told_acts (on_jobs fact) items = sym (append-nil (channel_acts_in items))
+told_acts other items = sym (append-nil (channel_acts_in items))
 
 holds_there : (s : Story) (items : List Item) (earlier at : Moment) (t : Told) → IsSo s items earlier t at → CallHolds s.shape t at.channels
-holds_there s items earlier at (note i) h = tt
 holds_there s items earlier at (on_channels fact) h = h.holds
-holds_there s items earlier at (on_jobs fact) h = tt
+holds_there s items earlier at other h = tt
 
 abbrev pub CallsSo : Shape → ℕ → List Entry → List Act → List Told → Type 0
 CallsSo shape k history done told = AllSo step start who_did deed k call_told (CallHolds shape) history done told

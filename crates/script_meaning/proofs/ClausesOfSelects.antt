@@ -1,7 +1,8 @@
 -- The clauses of a select of a program: one to seven, on distinct channels that the program declares.
-use Rattle.std.specs.Prelude.{◌≡◌, ℕ, zero, suc, ◌+◌, ◌<◌, ◌≤◌, ◌==◌, ◌||◌, not, nat_lt, Bool, true, false, List, [], ◌∷◌, ◌++◌, length, drop, Option, Some, None, is_some, slice_get, refl}
+use Rattle.std.specs.Prelude.{◌≡◌, ℕ, zero, suc, ◌+◌, ◌<◌, ◌≤◌, ◌==◌, ◌||◌, not, nat_lt, true, false, List, [], ◌∷◌, ◌++◌, length, drop, Option, Some, None, is_some, slice_get, refl}
 use Rattle.std.proofs.Common.{sym, ap, ◌∙◌, subst, length-append, arith, option_map}
 use Rattle.std.proofs.lemmas.Bool.Decides.{nat_tests}
+use Rattle.std.proofs.lemmas.Bool.{not-true, or_parts}
 use Rattle.script_grammar.specs.declared.instructions.Instruction.{Instruction}
 use Rattle.script_grammar.specs.declared.instructions.Instruction.TheVariants as line
 use Rattle.script_grammar.specs.Programs.{Program, Block}
@@ -27,17 +28,9 @@ pub record ClausesFit (n : ℕ) (before : List ℕ) (calls : List Call) : Type 0
 among_push : (c d : ℕ) (cs : List ℕ) → is_among c (cs ++ d ∷ []) ≡ false → (is_among c cs ≡ false) × (c ≡ d → ⊥)
 among_push c d [] e = (refl, λ f. grind (arith, nat_tests))
 among_push c d (x ∷ cs) e =
-    let parts : (x == c ≡ false) × (is_among c (cs ++ d ∷ []) ≡ false) = either_false (x == c) (is_among c (cs ++ d ∷ [])) e in
+    let parts : (x == c ≡ false) × (is_among c (cs ++ d ∷ []) ≡ false) = or_parts (x == c) (is_among c (cs ++ d ∷ [])) e in
     let rest = among_push c d cs parts.1 in
     (ap (λ b. b || is_among c cs) parts.0 ∙ rest.0, rest.1)
-  where
-    either_false : (a b : Bool) → (a || b) ≡ false → (a ≡ false) × (b ≡ false)
-    either_false true b f = cc
-    either_false false b f = (refl, f)
-
-not_true : (b : Bool) → not b ≡ true → b ≡ false
-not_true true e = cc
-not_true false e = refl
 
 one_more : (n c : ℕ) (before : List ℕ) (call : Call) (calls : List Call) → channel_of call ≡ c → c < n → is_among c before ≡ false
     → ClausesFit n (before ++ c ∷ []) calls → ClausesFit n before (call ∷ calls)
@@ -99,14 +92,14 @@ module _ (x : Config) (n : ℕ) (blocks : List (List ℕ)) (weights : List ℕ) 
       let more : (with_line weights (line.OnSend c v) (name_given jobs (line.OnSend c v)) b).clauses ≡ Some (cs ++ c ∷ []) =
       ap (λ o. option_map (λ (l : List ℕ). l ++ c ∷ []) o) e in
       let few : few_clauses (Some (cs ++ c ∷ [])) ≡ true = ap few_clauses (sym more) ∙ (both_true _ _ (both_true _ _ w).1).0 in
-      one_more n c cs _ _ refl (lt-from_true c n two.0) (not_true _ new) (again _ (cs ++ c ∷ []) rest more (le-from_true _ 7 few))
+      one_more n c cs _ _ refl (lt-from_true c n two.0) (not-true _ new) (again _ (cs ++ c ∷ []) rest more (le-from_true _ 7 few))
   at_line (line.OnReceive c) code again b cs s f w e le rest =
       let two = both_true (nat_lt c n) _ f in
       let new : not (is_among c cs) ≡ true = ap (is_new c) (sym e) ∙ two.1 in
       let more : (with_line weights (line.OnReceive c) (name_given jobs (line.OnReceive c)) b).clauses ≡ Some (cs ++ c ∷ []) =
       ap (λ o. option_map (λ (l : List ℕ). l ++ c ∷ []) o) e in
       let few : few_clauses (Some (cs ++ c ∷ [])) ≡ true = ap few_clauses (sym more) ∙ (both_true _ _ (both_true _ _ w).1).0 in
-      one_more n c cs _ _ refl (lt-from_true c n two.0) (not_true _ new) (again _ (cs ++ c ∷ []) rest more (le-from_true _ 7 few))
+      one_more n c cs _ _ refl (lt-from_true c n two.0) (not-true _ new) (again _ (cs ++ c ∷ []) rest more (le-from_true _ 7 few))
   at_line line.End code again b cs s f w e le rest = no_more n cs le
       (λ k. let t : has_items {A = ℕ} cs ≡ true = ap (λ o. stands o b.nest line.End) (sym e) ∙ s
       in let u : has_items {A = ℕ} [] ≡ true = ap (has_items {A = ℕ}) (sym k) ∙ t in absurd (let no_way : ⊥ = cc in no_way))

@@ -80,12 +80,9 @@ start_cancel s e f = let k : is_for_cancel New ≡ true = ap is_for_cancel (sym 
 
 body_cancel : (s : JobState) → is_for_cancel s ≡ true → is_for_cancel (state_after_body s) ≡ true
 unfolding is_for_cancel
-body_cancel New e = cc
-body_cancel Active e = cc
-body_cancel Completing e = cc
 body_cancel Cancelling e = refl
 body_cancel Cancelled e = refl
-body_cancel Completed e = cc
+body_cancel other e = cc
 
 cancel_cancel : is_for_cancel Cancelling ≡ true
 unfolding is_for_cancel
@@ -93,13 +90,9 @@ cancel_cancel = refl
 
 end_cancel : (s : JobState) (j : Job) (end : End) → end_of s j ≡ Some end → is_for_cancel s ≡ true → is_for_cancel (state_of_end end) ≡ true
 unfolding is_for_cancel
-end_cancel New j end m e = cc
-end_cancel Active j end m e = cc
-end_cancel Completing j end m e = cc
 end_cancel Cancelling j (ended.Completed v) m e = cc
 end_cancel Cancelling j (ended.Cancelled cause) m e = refl
-end_cancel Cancelled j end m e = cc
-end_cancel Completed j end m e = cc
+end_cancel other j end m e = cc
 
 cancel_lasts : Lasts IsForCancel
 unfolding IsForCancel
@@ -115,12 +108,9 @@ cancel_lasts = record {
 
 never_both : (s : JobState) → is_for_cancel s ≡ true → is_completed s ≡ false
 unfolding is_for_cancel
-never_both New e = cc
-never_both Active e = cc
-never_both Completing e = cc
 never_both Cancelling e = refl
 never_both Cancelled e = refl
-never_both Completed e = cc
+never_both other e = cc
 
 not_completed : (x : Option Job) → IsForCancel x → has_completed x ≡ false
 unfolding IsForCancel

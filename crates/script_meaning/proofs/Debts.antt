@@ -1,7 +1,7 @@
 -- What is owed after a history came by its last rise: so nothing is owed that everyone pays who brings it about.
 use Rattle.std.proofs.Common.{◌≡◌, ℕ, Bool, true, false, List, [], ◌∷◌, ◌++◌, refl, ap, sym, ◌∙◌, subst, inl, inr, ◌⊎◌, ⊎_elim, arith}
 use Rattle.std.specs.Prelude.{◌==◌}
-use Rattle.std.proofs.lemmas.Bool.{eqb-true}
+use Rattle.std.proofs.lemmas.Bool.{eqb-true, both_ways}
 use Rattle.std.proofs.lemmas.Bool.Decides.{nat_tests}
 
 -- ---- lists
@@ -94,21 +94,17 @@ module _ {S E : Type 0} (after : S → E → S) (who : E → ℕ) (owes : S → 
       here t true q = inl (one_more s e es q t)
       here t false q = inr (record { before = []; entry = e; rest = es; parts = refl; not_owed = q; owed = t })
 
-  both : (b : Bool) → b ≡ true → b ≡ false → ⊥
-  both true p q = cc
-  both false p q = cc
-
   pub nothing_owed : (s : S) (es : List E) → owes s ≡ false → ((k : ℕ) → Pays s k es) → owes (state_after after s es) ≡ false
   nothing_owed s es first pays = by_test (owes (state_after after s es)) refl
     where
       rises : LastRise s es → ⊥
       rises r =
           let paid = pays (who r.entry) r.before r.entry r.rest r.parts refl r.not_owed (r.owed [] r.rest refl) in
-          both (owes (state_after after (after (state_after after s r.before) r.entry) paid.0)) (r.owed paid.0 paid.1 paid.2) paid.3
+          both_ways (owes (state_after after (after (state_after after s r.before) r.entry) paid.0)) paid.3 (r.owed paid.0 paid.1 paid.2)
 
       by_test : (b : Bool) → owes (state_after after s es) ≡ b → owes (state_after after s es) ≡ false
       by_test false q = q
-      by_test true q = absurd (⊎_elim (λ (t : OwedThroughout s es). both (owes s) (t [] es refl) first) rises (last_rise s es q))
+      by_test true q = absurd (⊎_elim (λ (t : OwedThroughout s es). both_ways (owes s) first (t [] es refl)) rises (last_rise s es q))
 
 -- ---- the part of one caller
 

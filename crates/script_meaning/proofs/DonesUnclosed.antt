@@ -1,11 +1,11 @@
 -- Calls that close no done channel leave the done channels as they are.
-use Rattle.std.specs.Prelude.{◌≡◌, ℕ, ◌==◌, ◌≤◌, nat_le, Bool, true, false, ◌&&◌, not, List, [], ◌∷◌, Option, Some, None, refl, if◌then◌else◌}
+use Rattle.std.specs.Prelude.{◌≡◌, ℕ, ◌==◌, ◌≤◌, nat_le, Bool, true, false, not, List, [], ◌∷◌, Option, Some, None, refl, if◌then◌else◌}
 use Rattle.std.specs.List.{list_all}
 use Rattle.std.proofs.Common.{ap, ◌∙◌, arith}
-use Rattle.std.proofs.lemmas.Bool.{eqb-true}
+use Rattle.std.proofs.lemmas.Bool.{eqb-true, and_parts}
 use Rattle.std.proofs.lemmas.Bool.Decides.{nat_tests}
 use Rattle.channel_model.specs.declared.acts.Act.{Act}
-use Rattle.channel_model.specs.declared.acts.Act.TheVariants.{Hand, Put, Offer, Await, Take, Admit, Drop, Spurn, Close, Void, Drain, WakeClosed, Withdraw, Settle}
+use Rattle.channel_model.specs.declared.acts.Act.TheVariants.{Hand, Put, Offer, Await, Take, Admit, Drop, Spurn, Close, Void, Drain, WakeClosed}
 use Rattle.channel_model.specs.declared.standing.Party.{Party}
 use Rattle.channel_model.specs.declared.standing.Standing.{Standing}
 use Rattle.channel_model.specs.declared.standing.Receiver.{Receiver}
@@ -77,20 +77,15 @@ closed_same base s who (Close c v) d le e = other_closed c d _ s (apart base c d
 closed_same base s who (Void c) d le e = put_closed c d (record (s.channels c) { voided = true }) s refl
 closed_same base s who (Drain c p v) d le e = offer_closed c d (s.channels c).queue _ s
 closed_same base s who (WakeClosed c p) d le e = first_closed (s.channels c).receivers _ s d
-closed_same base s who (Withdraw w why) d le e = refl
-closed_same base s who (Settle w outcome) d le e = refl
+closed_same base s who other d le e = refl
 
 none_closed : (base who d : ℕ) (s : State) (acts : List Act) → base ≤ d → list_all (leaves_dones base) acts ≡ true
     → ((replay_from s (entries_by who acts)).channels d).closed ≡ (s.channels d).closed
 unfolding replay_from
 none_closed base who d s [] le h = refl
 none_closed base who d s (act ∷ acts) le h =
-    let two = both (leaves_dones base act) (list_all (leaves_dones base) acts) h in
+    let two = and_parts (leaves_dones base act) (list_all (leaves_dones base) acts) h in
     none_closed base who d (after s who act) acts le two.1 ∙ closed_same base s who act d le two.0
-  where
-    both : (a b : Bool) → (a && b) ≡ true → (a ≡ true) × (b ≡ true)
-    both true b k = (refl, k)
-    both false b k = cc
 
 -- where nobody else calls, a done channel is closed after such calls where it was closed before
 pub added_closes : (base who : ℕ) (acts : List Act) (a b : Floor) → Added who acts a b → list_all (leaves_dones base) acts ≡ true

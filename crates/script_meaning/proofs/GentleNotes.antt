@@ -1,8 +1,9 @@
 -- Which groups note no end of a Job and no Close of a done channel, which note no refusal, and which attach no row.
-use Rattle.std.specs.Prelude.{◌≡◌, ℕ, ◌<◌, nat_le, Bool, true, false, not, ◌&&◌, ◌||◌, List, [], ◌∷◌, ◌++◌, refl}
+use Rattle.std.specs.Prelude.{◌≡◌, ℕ, ◌<◌, nat_le, Bool, true, false, not, ◌&&◌, List, [], ◌∷◌, ◌++◌, refl}
 use Rattle.std.specs.List.{list_any, list_all}
 use Rattle.std.proofs.Common.{ap, ◌∙◌, arith}
 use Rattle.std.proofs.lemmas.Bool.Decides.{nat_tests}
+use Rattle.std.proofs.lemmas.Bool.{not-true, or_from}
 use Rattle.channel_model.specs.declared.acts.Act.{Act}
 use Rattle.channel_model.specs.declared.acts.Act.TheVariants.{Hand, Put, Offer, Await, Take, Admit, Drop, Spurn, Close, Void}
 use Rattle.channel_model.specs.declared.acts.ChannelNote.{ChannelNote}
@@ -160,12 +161,8 @@ mild_gentle base (item.Channel n ∷ items) h = let two = both (is_mild_call bas
 mild_gentle base (item.Job n ∷ items) h = let two = both (is_mild_note n) _ h
     in ap (λ b. b && list_all (is_gentle base) items) (note_gentle n two.0) ∙ mild_gentle base items two.1
 
-flip : (b : Bool) → not b ≡ true → b ≡ false
-flip true k = cc
-flip false k = refl
-
 call_unrefused : (base : ℕ) (n : ChannelNote) → is_ending_call base n ≡ true → is_channel_refusal base n ≡ false
-call_unrefused base (heard_as.Spent c) e = flip (nat_le base c) e
+call_unrefused base (heard_as.Spent c) e = not-true (nat_le base c) e
 call_unrefused base other e = refl
 
 mild_unspent : (base : ℕ) (n : ChannelNote) → is_mild_call base n ≡ true → is_ending_call base n ≡ true
@@ -178,14 +175,11 @@ mild_unrefused_note known.Used e = cc
 mild_unrefused_note known.ParentEnded e = cc
 mild_unrefused_note other e = refl
 
-nor : (a b : Bool) → a ≡ false → b ≡ false → (a || b) ≡ false
-nor a b e f = ap (λ x. x || b) e ∙ f
-
 unrefused_items : (base : ℕ) (T : Item → Bool) → ((i : Item) → T i ≡ true → is_refusal base i ≡ false) → (items : List Item)
     → list_all T items ≡ true → list_any (is_refusal base) items ≡ false
 unrefused_items base T k [] h = refl
 unrefused_items base T k (i ∷ items) h = let two = both (T i) (list_all T items) h
-    in nor _ _ (k i two.0) (unrefused_items base T k items two.1)
+    in or_from _ _ (k i two.0) (unrefused_items base T k items two.1)
 
 -- ---- no refusal
 

@@ -17,12 +17,13 @@ use Rattle.script_grammar.specs.WellFormed.{IsProgram}
 use Rattle.script_meaning.specs.declared.stage.Stage.{Stage}
 use Rattle.script_meaning.specs.declared.stage.Stage.TheVariants.{Fresh, Running, Waiting, SeesJob, Unwinding, Leaving, SeesScope, Ended}
 use Rattle.script_meaning.specs.Configs.{Config, Entered, in_repeat, in_each, in_scope, InScope, fresh, at_stage, outside, past_launch, scope_in, LineIs, IsAt}
-use Rattle.script_meaning.specs.Lines.{LineCalls, After, AfterAwait, Resumed, AtScopeEnd, AfterScope}
+use Rattle.script_meaning.specs.Lines.{LineCalls, After, AfterAwait, AtScopeEnd, AfterScope}
 use Rattle.script_meaning.specs.Moves.{Move}
 use Rattle.script_meaning.specs.Books.{Spawns, Begins, Reaches}
 use Rattle.script_meaning.specs.Inside.{heads_at, head_of, EntersAt, AllEnter, is_in_lines, may_wait, is_await, CallsAt, Fits}
 use Rattle.script_meaning.proofs.OpenLines.{opened_at, ClosedAt, closed_at, heads_next, heads_open, heads_other, heads_end, end_closes_first, closed_later}
 use Rattle.script_meaning.proofs.LinesPlaced.{placed_at, clause_in_select, end_in_open, opened_closed}
+use Rattle.script_meaning.proofs.WaitsPlaced.{resumed_waits}
 
 -- ---- what was entered
 
@@ -240,9 +241,6 @@ at_end p k x e es h at f =
 -- only these lines wait
 waits_there : (p : Program) (k : ℕ) (x : Config) (i : Instruction) (group : List Told) (a : Answer) (w : WaitId) → LineCalls p k x i group a
     → a ≡ Waits w → may_wait (Some i) ≡ true
-waits_there p k x _ _ _ w (LineCalls.send c o group a call) e = refl
-waits_there p k x _ _ _ w (LineCalls.receive c group a call) e = refl
-waits_there p k x _ _ _ w (LineCalls.each c group a call) e = refl
 waits_there p k x _ _ _ w (LineCalls.trysend c o group a call) e = absurd (no_wait _ group a call e)
   where
     at_once : (t : _) (g : List Told) (a : Answer) → AtOnce t g a → a ≡ Waits w → ⊥
@@ -267,20 +265,12 @@ waits_there p k x _ _ _ w (LineCalls.tryreceive c group a call) e = absurd (no_w
     no_wait _ _ _ (TryCall.refused t told r) e = cc
     no_wait _ _ _ (TryCall.blocks t) e = cc
     no_wait _ _ _ (TryCall.no_place c v) e = cc
-waits_there p k x _ _ _ w (LineCalls.select group a call) e = refl
-waits_there p k x _ _ _ w (LineCalls.join job row group a n call) e = refl
-waits_there p k x _ _ _ w (LineCalls.await job row group a n call) e = refl
+waits_there p k x _ _ _ w other e = refl
 
 pub after_fits : (p : Program) (k : ℕ) (x : Config) (i : Instruction) (a : Answer) (y : Config) → Fits p k x → is_in_lines x.stage ≡ true
     → LineIs p k x i → ((w : WaitId) → a ≡ Waits w → may_wait (Some i) ≡ true) → After p k x i a y → Fits p k y
 after_fits p k x _ _ _ h s at may (After.waits i w) = stays_fits p k x (Waiting w) h (λ e. cc) (ap may_wait at ∙ may w refl) (λ e. s)
 after_fits p k x _ _ _ h s at may (After.no_place i) = unwinding_fits p k x (Some k) h
-after_fits p k x _ _ _ h s at may (After.sent c o) = running_fits p k _ _ _ (runs_next p k x _ h s at refl refl) refl refl refl
-after_fits p k x _ _ _ h s at may (After.tried_to_send c o) = running_fits p k _ _ _ (runs_next p k x _ h s at refl refl) refl refl refl
-after_fits p k x _ _ _ h s at may (After.got c v) = running_fits p k _ _ _ (runs_next p k x _ h s at refl refl) refl refl refl
-after_fits p k x _ _ _ h s at may (After.no_more c v) = running_fits p k _ _ _ (runs_next p k x _ h s at refl refl) refl refl refl
-after_fits p k x _ _ _ h s at may (After.tried_and_got c v) = running_fits p k _ _ _ (runs_next p k x _ h s at refl refl) refl refl refl
-after_fits p k x _ _ _ h s at may (After.tried_to_get c) = running_fits p k _ _ _ (runs_next p k x _ h s at refl refl) refl refl refl
 after_fits p k x _ _ _ h s at may (After.got_one_more c v) =
     running_fits p k _ _ _ (runs_into p k x _ (in_each x.line) h s at refl refl (c, at)) refl refl refl
 after_fits p k x _ _ _ h s at may (After.got_all c v e is) = running_fits p k _ _ _ (runs_past p k x _ e h s at refl is) refl refl refl
@@ -288,14 +278,8 @@ after_fits p k x _ _ _ h s at may (After.chose_send e is) = running_fits p k _ _
 after_fits p k x _ _ _ h s at may (After.chose_got e v is) = running_fits p k _ _ _ (runs_past p k x _ e h s at refl is) refl refl refl
 after_fits p k x _ _ _ h s at may (After.chose_closed e v is) = running_fits p k _ _ _ (runs_past p k x _ e h s at refl is) refl refl refl
 after_fits p k x _ _ _ h s at may After.looks_again = h
-after_fits p k x _ _ _ h s at may (After.joined job v) = running_fits p k _ _ _ (runs_next p k x _ h s at refl refl) refl refl refl
 after_fits p k x _ _ _ h s at may (After.awaited job v) = stays_fits p k x SeesJob h (λ e. cc) (ap is_await at) (λ e. s)
-
--- a wait does not end in another
-resumed_no_wait : {A : Type 0} (outcome : _) (a : Answer) (w : WaitId) → Resumed outcome a → a ≡ Waits w → A
-resumed_no_wait _ _ w (Resumed.value n v) e = cc
-resumed_no_wait _ _ w (Resumed.sent n) e = cc
-resumed_no_wait _ _ w (Resumed.closed n v) e = cc
+after_fits p k x _ _ _ h s at may other = running_fits p k _ _ _ (runs_next p k x _ h s at refl refl) refl refl refl
 
 after_await_fits : (p : Program) (k : ℕ) (x : Config) (job : ℕ) (end : End) (y : Config) → Fits p k x → is_in_lines x.stage ≡ true
     → LineIs p k x (line.Await job) → AfterAwait x end y → Fits p k y
@@ -354,7 +338,7 @@ move_fits p k _ _ _ h (Move.never_runs x s) = unwinding_fits p k x None h
 move_fits p k _ _ _ h (Move.calls x y i group a at c f) =
     after_fits p k x i a y h (at_in_lines p k x i at) at.line_is (λ w e. waits_there p k x i group a w c e) f
 move_fits p k _ _ _ h (Move.resumes x y w i outcome a s at m f) =
-    after_fits p k x i a y h (ap is_in_lines s) at (λ v e. resumed_no_wait outcome a v m e) f
+    after_fits p k x i a y h (ap is_in_lines s) at (λ v e. resumed_waits outcome a v m e) f
 move_fits p k _ _ _ h (Move.cancelled x w s) = unwinding_fits p k x None h
 move_fits p k _ _ _ h (Move.gives_up x w group s g) = unwinding_fits p k x None h
 move_fits p k _ _ _ h (Move.sees_job x y job row end s at n f) = after_await_fits p k x job end y h (ap is_in_lines s) at f

@@ -2,12 +2,12 @@
 use Rattle.std.proofs.Common.{◌≡◌, ℕ, ◌≤◌, Bool, true, false, List, [], ◌∷◌, ◌++◌, length, refl, ap, sym, ◌∙◌, subst, append_assoc, inl, inr, ◌⊎◌, ⊎_elim, Option, Some, None, arith, zero, suc}
 use Rattle.std.specs.Prelude.{nat_lt, map}
 use Rattle.std.proofs.lemmas.Bool.Decides.{nat_tests}
-use mathlib.Core.List.{IsPrefix}
+use mathlib.Core.List.{IsPrefix, append-nil}
 use Rattle.channel_model.specs.declared.acts.Entry.{Entry}
 use Rattle.job_model.specs.declared.acts.Reason.{Reason}
 use Rattle.job_model.specs.declared.acts.Reason.TheVariants as reasons
 use Rattle.job_model.specs.declared.acts.JobAct.{JobAct}
-use Rattle.job_model.specs.declared.acts.JobAct.TheVariants.{Attach, Start, EndBody, Cancel, Finish, Gone}
+use Rattle.job_model.specs.declared.acts.JobAct.TheVariants.{Attach, Cancel}
 use Rattle.job_model.specs.declared.acts.JobEntry.{JobEntry}
 use Rattle.job_model.specs.Cancels.{IsCancelBelow, AreCancelsBelow}
 use Rattle.job_model.specs.Failures.{FailsUp}
@@ -20,7 +20,7 @@ use Rattle.job_model.proofs.Own.{prefix_keeps}
 use Rattle.job_model.proofs.Lasting.{parent_lasts}
 use Rattle.note_book.specs.declared.book.Item.{Item}
 use Rattle.note_book.specs.Items.{job_acts_in}
-use Rattle.call_meaning.specs.Telling.{Told, note, on_channels, on_jobs, JobFact, ParentIs, PassedBelow, FailedUp, did}
+use Rattle.call_meaning.specs.Telling.{Told, on_jobs, JobFact, ParentIs, PassedBelow, FailedUp, did}
 use Rattle.script_grammar.specs.Programs.{Program}
 use Rattle.script_grammar.specs.Tags.{coroutine_count}
 use Rattle.script_meaning.specs.Shapes.{job_shape}
@@ -53,12 +53,8 @@ cancels_then [] ys a b = b
 cancels_then (x ∷ xs) ys a b = (a.0, cancels_then xs ys a.1 b)
 
 one_cancel : (tree : Tree) (row : ℕ) (a : JobAct) → IsCancelBelow tree row a → IsCancel a
-one_cancel tree row (Attach p q kind tag cancelled) h = absurd h
-one_cancel tree row (Start q) h = absurd h
-one_cancel tree row (EndBody q v) h = absurd h
 one_cancel tree row (Cancel q reason) h = tt
-one_cancel tree row (Finish q end) h = absurd h
-one_cancel tree row (Gone q) h = absurd h
+one_cancel tree row other h = absurd h
 
 pub below_cancels : (tree : Tree) (row : ℕ) (acts : List JobAct) → AreCancelsBelow tree row acts → AreCancels acts
 unfolding AreCancels
@@ -73,16 +69,13 @@ up_cancels tree _ _ (FailsUp.goes_on row p acts later all g a b f e) =
     subst AreCancels (sym e) (tt, cancels_then acts later (below_cancels tree p acts b) (up_cancels tree p later f))
 
 abbrev pub IsParent : Reason → Type 0
-IsParent reasons.Request = ⊥
 IsParent reasons.Parent = Unit {0}
-IsParent (reasons.Child c) = ⊥
-IsParent (reasons.Own f) = ⊥
+IsParent other = ⊥
 
 abbrev pub IsUp : Reason → Type 0
-IsUp reasons.Request = ⊥
 IsUp reasons.Parent = Unit {0}
 IsUp (reasons.Child c) = Unit {0}
-IsUp (reasons.Own f) = ⊥
+IsUp other = ⊥
 
 abbrev pub IsFor : (Reason → Type 0) → JobAct → Type 0
 IsFor P (Cancel q reason) = P reason
@@ -98,12 +91,8 @@ for_then P [] ys a b = b
 for_then P (x ∷ xs) ys a b = (a.0, for_then P xs ys a.1 b)
 
 one_for : (P : Reason → Type 0) → P reasons.Parent → (tree : Tree) (row : ℕ) (a : JobAct) → IsCancelBelow tree row a → IsFor P a
-one_for P u tree row (Attach p q kind tag cancelled) h = absurd h
-one_for P u tree row (Start q) h = absurd h
-one_for P u tree row (EndBody q v) h = absurd h
 one_for P u tree row (Cancel q reason) h = subst P (sym h.0) u
-one_for P u tree row (Finish q end) h = absurd h
-one_for P u tree row (Gone q) h = absurd h
+one_for P u tree row other h = absurd h
 
 below_for : (P : Reason → Type 0) → P reasons.Parent → (tree : Tree) (row : ℕ) (acts : List JobAct) → AreCancelsBelow tree row acts
     → AreFor P acts
@@ -125,9 +114,8 @@ FactIsKnown parents (FailedUp row acts) = AreCancels acts × AreFor IsUp acts
 FactIsKnown parents other = Unit {0}
 
 abbrev pub IsKnown : Parents → Told → Type 0
-IsKnown parents (note i) = Unit {0}
-IsKnown parents (on_channels fact) = Unit {0}
 IsKnown parents (on_jobs fact) = FactIsKnown parents fact
+IsKnown parents other = Unit {0}
 
 unfoldable pub AllKnown : Parents → List Told → Type 0
 AllKnown parents [] = Unit {0}
@@ -153,9 +141,8 @@ fact_known shape jobs at other l p h = tt
 
 one_known : (shape : _) (jobs at : List JobEntry) (t : Told) → Legal shape jobs → IsPrefix at jobs → JobHolds t at
     → IsKnown (parents_in jobs) t
-one_known shape jobs at (note i) l p h = tt
-one_known shape jobs at (on_channels fact) l p h = tt
 one_known shape jobs at (on_jobs fact) l p h = fact_known shape jobs at fact l p h
+one_known shape jobs at other l p h = tt
 
 pub all_known : (shape : _) (k : ℕ) (jobs : List JobEntry) (done : List JobAct) (told : List Told) → Legal shape jobs
     → JobSo k jobs done told → AllKnown (parents_in jobs) told
@@ -285,12 +272,8 @@ nobody_owes p books channels jobs of d = subst (λ tree. d.owes tree ≡ false) 
         (λ t b m takes before rest u parts is. subst (λ s. d.owes (after s u.who u.act) ≡ false) (sym (same_tree start before))
         (d.by_act e.act t b m takes before rest u parts is))
         (part who_did deed k bs ++ e.act ∷ []) [] ys (acts ∙ ap (λ l. l
-        ++ acts_told step start who_did deed k job_told JobHolds ys) (sym (no_more (part who_did deed k bs ++ e.act ∷ []))))
-        (subst (λ l. JobSo k jobs l ys) (sym (no_more (part who_did deed k bs ++ e.act ∷ []))) so) x)
-      where
-        no_more : {A : Type 0} (xs : List A) → xs ++ [] ≡ xs
-        no_more [] = refl
-        no_more (x ∷ xs) = ap (λ l. x ∷ l) (no_more xs)
+        ++ acts_told step start who_did deed k job_told JobHolds ys) (sym (append-nil (part who_did deed k bs ++ e.act ∷ []))))
+        (subst (λ l. JobSo k jobs l ys) (sym (append-nil (part who_did deed k bs ++ e.act ∷ []))) so) x)
 
     pays : (k : ℕ) → Pays step who_did d.owes start k jobs
     pays k = ⊎_elim (λ (h : HasTold p jobs k). one_of k h) (λ (n : part who_did deed k jobs ≡ []). none_of k n)

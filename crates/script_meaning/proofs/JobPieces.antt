@@ -12,7 +12,7 @@ use Rattle.job_model.specs.declared.acts.JobNote.{JobNote}
 use Rattle.job_model.specs.declared.acts.JobNote.TheVariants as of_job
 use Rattle.note_book.specs.declared.book.Item.{Item}
 use Rattle.note_book.specs.declared.book.Item.TheVariants as item
-use Rattle.call_meaning.specs.Telling.{Told, note, on_channels, on_jobs, FailedUp, NotNew, IsCancelling, did, made}
+use Rattle.call_meaning.specs.Telling.{Told, note, on_jobs, FailedUp, NotNew, IsCancelling, did, made}
 use Rattle.call_meaning.specs.ChannelCalls.{Call, sends, receives, Answer, PlainCall, TryCall, SelectCall, Admits, Drops, Spurns, Overflows, Wakes, Drains, Closes, CancelsChannel, AtOnce, Refused, TryRefused, blocked, spent, EndsAtOnce, Places, AdmitsIn, GivesUp, Stops, placed, wait_at, revoked}
 use Rattle.call_meaning.specs.JobCalls.{NotAttached, Starts, Passes, Breaks, reason_for, Chain, EndsBody, BreaksOff}
 use Rattle.script_grammar.specs.Programs.{Program}
@@ -36,8 +36,7 @@ act_in_item (item.Job n) = act_in_note n
 
 abbrev pub job_told : Told → Option JobAct
 job_told (note i) = act_in_item i
-job_told (on_channels fact) = None
-job_told (on_jobs fact) = None
+job_told other = None
 
 unfoldable pub IsQuiet : List Told → Type 0
 IsQuiet [] = Unit {0}
@@ -155,10 +154,9 @@ quiet_admits_in _ _ (AdmitsIn.offered c v calls admits more all a h e) =
 quiet_admits_in _ _ (AdmitsIn.awaited c calls all h) = quiet_admits_in calls all h
 
 quiet_stops : (call : Call) (g : List Told) (a : Answer) → Stops call g a → IsQuiet g
-quiet_stops _ _ _ (Stops.receiver c v q) = cons _ _ refl (one _ refl)
-quiet_stops _ _ _ (Stops.offer c q) = cons _ _ refl (one _ refl)
 quiet_stops _ _ _ (Stops.closed call t a h) = one t (quiet_refused call t a h)
 quiet_stops _ _ _ (Stops.no_place call all e) = subst IsQuiet (sym e) (quiet_spent call)
+quiet_stops _ _ _ other = cons _ _ refl (one _ refl)
 
 passed : (calls : List Call) → IsQuiet (map blocked calls)
 passed calls = quiet_map blocked calls quiet_blocked
@@ -189,16 +187,14 @@ quiet_select calls _ _ (SelectCall.stops_late w before later call group stop adm
     (cons _ admits refl (quiet_admits_in before admits d))))
 
 pub quiet_gives_up : (w : _) (g : List Told) → GivesUp w g → IsQuiet g
-quiet_gives_up w _ GivesUp.dispatched = one _ refl
-quiet_gives_up w _ (GivesUp.undelivered v) = one _ refl
 quiet_gives_up w _ (GivesUp.withdrawn admits h) = cons _ _ refl (cons _ admits refl (quiet_admits _ admits h))
 quiet_gives_up w _ (GivesUp.late admits h) = cons _ _ refl (cons _ admits refl (quiet_admits _ admits h))
 quiet_gives_up w _ (GivesUp.late_undelivered v admits h) = cons _ _ refl (cons _ admits refl (quiet_admits _ admits h))
+quiet_gives_up w _ other = one _ refl
 
 pub quiet_refusal : (parent : ℕ) (b : Bool) (g : List Told) → NotAttached parent b g → IsQuiet g
-quiet_refusal parent _ _ NotAttached.no_row = one _ refl
-quiet_refusal parent _ _ NotAttached.used = one _ refl
 quiet_refusal parent _ _ (NotAttached.parent_ended b) = cons _ _ refl (one _ refl)
+quiet_refusal parent _ _ other = one _ refl
 
 -- ---- pieces
 
@@ -209,10 +205,8 @@ pub data IsMild (k row : ℕ) (reason : Reason) (newly : Bool) : Type 0 where
   of_scope : row ≢ k → IsMild k row reason newly
 
 abbrev pub IsOwnReason : Reason → Type 0
-IsOwnReason reasons.Request = Unit {0}
-IsOwnReason reasons.Parent = Unit {0}
 IsOwnReason (reasons.Child c) = ⊥
-IsOwnReason (reasons.Own f) = Unit {0}
+IsOwnReason other = Unit {0}
 
 pub data JobPiece (p : Program) (k : ℕ) : List Told → Type 0 where
   quiet : (g : List Told) → IsQuiet g → JobPiece p k g
@@ -285,18 +279,12 @@ nothing : (p : Program) (k : ℕ) → JobPieces p k []
 nothing p k = JobPieces.none
 
 pub move_pieces : (p : Program) (k : ℕ) (x y : Config) (g : List Told) → Move p k x g y → JobPieces p k g
-move_pieces p k _ _ _ (Move.runs x s) = silent p k _ (one _ refl)
-move_pieces p k _ _ _ (Move.never_runs x s) = silent p k _ (one _ refl)
 move_pieces p k _ _ _ (Move.calls x y i g a s h f) = line_pieces p k x i g a h
 move_pieces p k _ _ _ (Move.resumes x y w i outcome a s l r f) = silent p k _ (cons _ _ refl (cons _ _ refl (one _ refl)))
 move_pieces p k _ _ _ (Move.cancelled x w s) = silent p k _ (cons _ _ refl (one _ refl))
 move_pieces p k _ _ _ (Move.gives_up x w g s h) = silent p k _ (cons _ g refl (quiet_gives_up w g h))
-move_pieces p k _ _ _ (Move.sees_job x y job row end s l n f) = silent p k _ (one _ refl)
 move_pieces p k _ _ _ (Move.closes x c g s h) = silent p k g (quiet_closes c 0 g h)
 move_pieces p k _ _ _ (Move.cancels_channel x c g s h) = silent p k g (quiet_cancels c g h)
-move_pieces p k _ _ _ (Move.yields x s) = silent p k _ (one _ refl)
-move_pieces p k _ _ _ (Move.stops_at_yield x s) = silent p k _ (one _ refl)
-move_pieces p k _ _ _ (Move.stops_at_join x job s) = silent p k _ (one _ refl)
 move_pieces p k _ _ _ (Move.launches x block how job now s) = alone p k _ (JobPiece.attaches _ _ _ _ _)
 move_pieces p k _ _ _ (Move.launch_refused x block how job g s h) = silent p k g (quiet_refusal _ _ g h)
 move_pieces p k _ _ _ (Move.enters x supervisor row now s) = alone p k _ (JobPiece.attaches _ _ _ _ _)
@@ -304,7 +292,6 @@ move_pieces p k _ _ _ (Move.enter_refused x supervisor g s h) = silent p k g (qu
 move_pieces p k _ _ _ (Move.starts x job row g s n h) = start_pieces p k row g h
 move_pieces p k _ _ _ (Move.cancels x job row newly g s n h) =
     alone p k g (JobPiece.passes row reasons.Request newly g (IsMild.asked refl) tt h)
-move_pieces p k _ _ _ (Move.fails x v s) = silent p k _ (one _ refl)
 move_pieces p k _ _ _ (Move.results x o s) = nothing p k
 move_pieces p k _ _ _ (Move.repeats x n s) = nothing p k
 move_pieces p k _ _ _ (Move.turns_again x head n es s e) = nothing p k
@@ -312,12 +299,11 @@ move_pieces p k _ _ _ (Move.turns_no_more x head es s e) = nothing p k
 move_pieces p k _ _ _ (Move.receives_again x head es s e) = nothing p k
 move_pieces p k _ _ _ (Move.ends_scope x y s end g all a l e h c f q) =
     subst (JobPieces p k) (sym q) (pieces_then p k end g (end_pieces p k s.row 0 end h) (silent p k g (quiet_plain _ g a c)))
-move_pieces p k _ _ _ (Move.scope_ended x w n v s) = silent p k _ (one _ refl)
-move_pieces p k _ _ _ (Move.sees_scope x y s end l e f) = silent p k _ (one _ refl)
 move_pieces p k _ _ _ (Move.breaks_scope x y s failure break g all a l e h c f q) =
     subst (JobPieces p k) (sym q) (pieces_then p k break g (off_pieces p k s.row failure break h) (silent p k g (quiet_plain _ g a c)))
 move_pieces p k _ _ _ (Move.breaks x failure g s e h) = off_pieces p k k failure g h
 move_pieces p k _ _ _ (Move.ends x g s e h) = end_pieces p k k x.result g h
+move_pieces p k _ _ _ other = silent p k _ (one _ refl)
 
 spawn_pieces : (p : Program) (k : ℕ) (blocks : List ℕ) (x y : Config) (g : List Told) → Spawns p blocks x g y → JobPieces p k g
 spawn_pieces p k _ _ _ _ (Spawns.done x) = nothing p k

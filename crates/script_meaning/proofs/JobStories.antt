@@ -30,9 +30,8 @@ deed e = e.act
 
 -- what a told thing says of the Jobs
 abbrev pub JobHolds : Told → List JobEntry → Type 0
-JobHolds (note i) history = Unit {0}
-JobHolds (on_channels fact) history = Unit {0}
 JobHolds (on_jobs fact) history = JobFactHolds fact (replay history)
+JobHolds other history = Unit {0}
 
 pub same_tree : (tree : Tree) (es : List JobEntry) → state_after step tree es ≡ replay_from tree es
 unfolding replay_from
@@ -57,13 +56,11 @@ told_acts : (t : Told) (items : List Item) → job_acts_in (with_told t items) �
 told_acts (note (item.Channel n)) items = job_acts_in-append items (item.Channel n ∷ [])
 told_acts (note (item.Job n)) items = job_acts_in-append items (item.Job n ∷ [])
     ∙ ap (λ l. job_acts_in items ++ l) (append-nil (job_act n) ∙ act_of_note n)
-told_acts (on_channels fact) items = sym (append-nil (job_acts_in items))
-told_acts (on_jobs fact) items = sym (append-nil (job_acts_in items))
+told_acts other items = sym (append-nil (job_acts_in items))
 
 holds_there : (s : Story) (items : List Item) (earlier at : Moment) (t : Told) → IsSo s items earlier t at → JobHolds t at.jobs
-holds_there s items earlier at (note i) h = tt
-holds_there s items earlier at (on_channels fact) h = tt
 holds_there s items earlier at (on_jobs fact) h = h.holds
+holds_there s items earlier at other h = tt
 
 abbrev pub JobSo : ℕ → List JobEntry → List JobAct → List Told → Type 0
 JobSo k history done told = AllSo step start who_did deed k job_told JobHolds history done told

@@ -1,6 +1,5 @@
 -- What is left to be launched after each step through the code: a line behind, into what a line opens, past it, and at its end.
-use Rattle.std.proofs.Common.{◌≡◌, ℕ, suc, ◌+◌, ◌*◌, Bool, false, List, [], ◌∷◌, ◌++◌, Some, refl, ap, sym, ◌∙◌, subst, arith, append_assoc, slice_get, drop, drop-cons}
-use Rattle.std.proofs.lemmas.Option.{slice_get_within, get_or_from_slice_get}
+use Rattle.std.proofs.Common.{◌≡◌, ℕ, suc, ◌+◌, ◌*◌, Bool, false, List, [], ◌∷◌, ◌++◌, Some, refl, ap, sym, ◌∙◌, subst, arith, append_assoc, slice_get, drop}
 use Rattle.script_grammar.specs.declared.instructions.Instruction.{Instruction}
 use Rattle.script_grammar.specs.declared.instructions.Instruction.TheVariants as line
 use Rattle.script_grammar.specs.Blocks.{launch_of, listed, opens_lines, is_end}
@@ -9,12 +8,7 @@ use Rattle.script_grammar.specs.Tags.{times_over}
 use Rattle.script_grammar.proofs.BalancedLines.{Balanced, after_closing}
 use Rattle.script_meaning.specs.Configs.{Entered, in_repeat, in_each, in_scope}
 use Rattle.script_meaning.proofs.LinesLeft.{Behind, Left, First, left_front, first_line}
-
-pub drop_at : (code : List Instruction) (i : ℕ) (l : Instruction) → slice_get code i ≡ Some l → drop i code ≡ l ∷ drop (i + 1) code
-drop_at code i l e =
-    let one : suc i ≡ i + 1 = omega arith in
-    drop-cons code i l (slice_get_within code i l e) ∙ ap (λ y. y ∷ drop (suc i) code) (get_or_from_slice_get code i l l e)
-    ∙ ap (λ n. l ∷ drop n code) one
+use Rattle.script_meaning.proofs.OpenLines.{drop_at}
 
 -- the first line of what is left
 pub first_at : (code : List Instruction) (es : List Entered) (i : ℕ) (l : Instruction) (all : List ℕ) (count : ℕ)

@@ -1,17 +1,18 @@
 -- Where the lines of a program stand: clauses in a select, ends where something is open; and what each opens is closed.
-use Rattle.std.specs.Prelude.{◌≡◌, ℕ, zero, suc, ◌+◌, ◌*◌, ◌<◌, ◌≤◌, nat_le, true, List, [], ◌∷◌, ◌++◌, length, Option, Some, None, is_some, slice_get, get_or, refl}
+use Rattle.std.specs.Prelude.{◌≡◌, ℕ, zero, suc, ◌+◌, ◌<◌, ◌≤◌, nat_le, true, List, [], ◌∷◌, ◌++◌, length, Option, Some, None, is_some, slice_get, get_or, refl}
 use Rattle.std.proofs.Common.{sym, ap, ◌∙◌, subst, length-append, arith}
 use Rattle.script_grammar.specs.declared.instructions.Instruction.{Instruction}
 use Rattle.script_grammar.specs.declared.instructions.Instruction.TheVariants as line
 use Rattle.script_grammar.specs.Programs.{Program, Block}
-use Rattle.script_grammar.specs.Blocks.{Open, opened, with_line, stands, fits, nest_after, clauses_after, is_clause, opens_lines, but_first, turns, product, own_weight}
-use Rattle.script_grammar.specs.WellFormed.{name_given, is_within, lines_fit, with_lines, weight_in, blocks_fit, IsProgram}
+use Rattle.script_grammar.specs.Blocks.{Open, opened, with_line, stands, fits, nest_after, clauses_after, is_clause, opens_lines, but_first, turns}
+use Rattle.script_grammar.specs.WellFormed.{name_given, is_within, lines_fit, weight_in, blocks_fit, IsProgram}
 use Rattle.script_grammar.specs.Nesting.{closing_of}
 use Rattle.script_grammar.specs.Tags.{code_of, code_at, code_of_block, block_of_tag}
 use Rattle.script_grammar.proofs.Truths.{both_true, le-from_true}
 use Rattle.script_grammar.proofs.OpenedIsClosed.{program-closes}
 use Rattle.script_meaning.specs.Inside.{heads_after, heads_from, heads_at}
 use Rattle.script_meaning.proofs.OpenLines.{ClosedAt, closed_at}
+use Rattle.script_grammar.proofs.ProgramsBalanced.{weight_grows}
 
 -- ---- what is open, as the grammar has it
 
@@ -96,18 +97,6 @@ some_at : (ws : List ℕ) (j : ℕ) → AllSome ws → j < length ws → 1 ≤ g
 some_at [] j h lt = absurd (omega (arith, lt))
 some_at (w ∷ ws) zero h lt = h.0
 some_at (w ∷ ws) (suc j) h lt = let shorter : j < length ws = omega (arith, lt) in some_at ws j h.1 shorter
-
-weight_grows : (weights : List ℕ) (jobs : List (List ℕ)) (b : Open) (code : List Instruction)
-    → b.weight ≤ (with_lines weights jobs b code).weight
-weight_grows weights jobs b [] = omega arith
-weight_grows weights jobs b (x ∷ code) =
-    let next = with_line weights x (name_given jobs x) b in
-    let here = grown b.weight (product b.nest * own_weight weights x) in
-    let more = weight_grows weights jobs next code in
-    omega (arith, here, more)
-  where
-    grown : (w m : ℕ) → w ≤ w + m
-    grown w m = omega arith
 
 weight_some : (weights : List ℕ) (b : Block) → 1 ≤ weight_in weights b
 weight_some weights b = weight_grows weights b.jobs (opened b.name) b.code

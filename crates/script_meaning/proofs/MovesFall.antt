@@ -126,10 +126,8 @@ plain_receipt _ c _ _ (PlainCall.refused call told a r) e h = absurd (no_receipt
     no_receipt : (call : Call) (told : Told) (a : Answer) → Refused call told a → has_receipt a ≡ true → ⊥
     no_receipt _ _ _ (Refused.send d v u) h = cc
     no_receipt _ _ _ (Refused.receive d u) h = cc
-plain_receipt _ c _ _ (PlainCall.no_place call all is) e h = cc
-plain_receipt _ c _ _ (PlainCall.offers d v q admits f) e h = cc
-plain_receipt _ c _ _ (PlainCall.offer_ends d v q admits settles all f s is) e h = cc
 plain_receipt _ c _ _ (PlainCall.awaits d q) e h = one_receipt (Await d q (record { channel = d; place = q }) 0) [] refl
+plain_receipt _ c _ _ other e h = cc
 
 -- ---- what a move leaves
 
@@ -248,20 +246,14 @@ call_lower p k x _ _ y s at n (After.waits i w) =
     let none : each_weight p x.line (slice_get (code_of p k) x.line) ≡ 0 = ap (each_weight p x.line) at ∙ not_each p x.line i n in
     inl (stage_lower p k x Running (Waiting w) s (omega (arith, none)) (omega arith))
 call_lower p k x _ _ y s at n (After.no_place i) = inl (stage_lower p k x Running (Unwinding (Some k)) s (omega arith) (omega arith))
-call_lower p k x _ _ y s at n (After.sent c o) = inl (next_lower p k x _ y at refl refl refl)
-call_lower p k x _ _ y s at n (After.tried_to_send c o) = inl (next_lower p k x _ y at refl refl refl)
-call_lower p k x _ _ y s at n (After.got c v) = inl (next_lower p k x _ y at refl refl refl)
-call_lower p k x _ _ y s at n (After.no_more c v) = inl (next_lower p k x _ y at refl refl refl)
-call_lower p k x _ _ y s at n (After.tried_and_got c v) = inl (next_lower p k x _ y at refl refl refl)
-call_lower p k x _ _ y s at n (After.tried_to_get c) = inl (next_lower p k x _ y at refl refl refl)
 call_lower p k x _ _ y s at n (After.got_one_more c v) = cc
 call_lower p k x _ _ y s at n (After.got_all c v e f) = cc
 call_lower p k x _ _ y s at n (After.chose_send e f) = inl (past_lower p k x _ e y at refl f refl refl refl)
 call_lower p k x _ _ y s at n (After.chose_got e v f) = inl (past_lower p k x _ e y at refl f refl refl refl)
 call_lower p k x _ _ y s at n (After.chose_closed e v f) = inl (past_lower p k x _ e y at refl f refl refl refl)
 call_lower p k x _ _ y s at n After.looks_again = inr (refl, refl, refl)
-call_lower p k x _ _ y s at n (After.joined job v) = inl (next_lower p k x _ y at refl refl refl)
 call_lower p k x _ _ y s at n (After.awaited job v) = inl (stage_lower p k x Running SeesJob s (omega arith) (omega arith))
+call_lower p k x _ _ y s at n other = inl (next_lower p k x _ y at refl refl refl)
 
 -- after a wait
 resumed_lower : (p : Program) (k : ℕ) (x : Config) (w : WaitId) (i : Instruction) (outcome : _) (a : Answer) (y : Config)

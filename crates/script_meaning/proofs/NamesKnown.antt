@@ -3,19 +3,19 @@ use Rattle.std.specs.Prelude.{◌≡◌, ℕ, zero, suc, ◌+◌, ◌-◌, ◌<�
 use Rattle.std.specs.List.{list_any}
 use mathlib.Core.List.{IsPrefix}
 use Rattle.std.proofs.Common.{sym, ap, ◌∙◌, subst, append_assoc, eqb-true, arith}
-use Rattle.std.proofs.lemmas.Bool.Decides.{nat_tests}
 use Rattle.std.proofs.lemmas.List.Folds.{list_any-append}
+use Rattle.std.proofs.lemmas.Bool.{false≢true, or_right, eq-eqb}
 use Rattle.job_model.specs.declared.acts.End.{End}
 use Rattle.job_model.specs.declared.acts.End.TheVariants as ends
 use Rattle.job_model.specs.declared.acts.JobState.{JobState}
-use Rattle.job_model.specs.declared.acts.JobState.TheVariants.{New, Active, Completing, Cancelling, Cancelled, Completed}
+use Rattle.job_model.specs.declared.acts.JobState.TheVariants.{New, Cancelling, Cancelled, Completed}
 use Rattle.job_model.specs.Trees.{Shape, Job, is_cancelled, state_of}
 use Rattle.job_model.specs.Laws.{is_step, GoesTo, RowGoesTo}
 use Rattle.job_model.specs.Histories.{replay, Legal}
 use Rattle.job_model.proofs.Histories.{Legal-prefix}
 use Rattle.job_model.proofs.States.{states_go_on}
 use Rattle.note_book.specs.declared.book.Item.{Item}
-use Rattle.call_meaning.specs.Telling.{Told, note, on_channels, on_jobs, JobFact, MayRun, NotNew, IsCancelling, HasEnded, PassedBelow, FailedUp, ParentIs, OwesNoEnd, saw_end}
+use Rattle.call_meaning.specs.Telling.{Told, on_jobs, JobFact, MayRun, NotNew, IsCancelling, HasEnded, PassedBelow, FailedUp, ParentIs, OwesNoEnd, saw_end}
 use Rattle.call_meaning.specs.Facts.{end_at, end_by}
 use Rattle.call_meaning.specs.Stories.{Moment, Story, IsSo, IsTrue, with_told, beginning}
 use Rattle.call_meaning.specs.ChannelCalls.{Answer}
@@ -53,9 +53,8 @@ is_cancelling_fact row other = false
 
 -- the Job of the row was Cancelling
 abbrev pub tells_cancelling : ℕ → Told → Bool
-tells_cancelling row (note i) = false
-tells_cancelling row (on_channels fact) = false
 tells_cancelling row (on_jobs fact) = is_cancelling_fact row fact
+tells_cancelling row other = false
 
 -- no Job that was Cancelling is seen completed
 pub EndsAgree : List Told → Type 0
@@ -69,17 +68,10 @@ agree_before xs ys h before behind row v e = h before (behind ++ ys) row v (ap (
 
 -- a Job that is Cancelling does not complete
 step_cancelled : (s t : JobState) → is_step s t ≡ true → is_cancelled s ≡ true → is_cancelled t ≡ true
-step_cancelled New t e c = cc
-step_cancelled Active t e c = cc
-step_cancelled Completing t e c = cc
-step_cancelled Cancelling New e c = cc
-step_cancelled Cancelling Active e c = cc
-step_cancelled Cancelling Completing e c = cc
 step_cancelled Cancelling Cancelling e c = refl
 step_cancelled Cancelling Cancelled e c = refl
-step_cancelled Cancelling Completed e c = cc
-step_cancelled Cancelled t e c = cc
-step_cancelled Completed t e c = cc
+step_cancelled Cancelling other e c = cc
+step_cancelled other t e c = cc
 
 goes_cancelled : (s t : JobState) → GoesTo s t → is_cancelled s ≡ true → is_cancelled t ≡ true
 goes_cancelled s _ GoesTo.stays c = c
@@ -111,8 +103,6 @@ later_so s items earlier (x ∷ before) t behind h =
 
 fact_so : (row : ℕ) (t : Told) (s : Story) (i : List Item) (e at : Moment) → tells_cancelling row t ≡ true → IsSo s i e t at
     → state_of (replay at.jobs row) ≡ Some Cancelling
-fact_so row (note n) s i e at c h = cc
-fact_so row (on_channels fact) s i e at c h = cc
 fact_so row (on_jobs (MayRun r)) s i e at c h = cc
 fact_so row (on_jobs (NotNew r)) s i e at c h = cc
 fact_so row (on_jobs (IsCancelling r)) s i e at c h = ap (λ n. state_of (replay at.jobs n)) (sym (eqb-true r row c)) ∙ h.holds
@@ -121,6 +111,7 @@ fact_so row (on_jobs (PassedBelow r acts)) s i e at c h = cc
 fact_so row (on_jobs (FailedUp r acts)) s i e at c h = cc
 fact_so row (on_jobs (ParentIs r parent)) s i e at c h = cc
 fact_so row (on_jobs (OwesNoEnd r)) s i e at c h = cc
+fact_so row other s i e at c h = cc
 
 not_both : (shape : Shape) (s : Story) (items : List Item) (earlier : Moment) (before behind : List Told) (row v : ℕ)
     → Legal shape s.now.jobs → IsTrue s items earlier (before ++ saw_end row (ends.Completed v) ∷ behind)
@@ -167,27 +158,24 @@ pub record KnowsNames (p : Program) (k : ℕ) (told : List Told) (x : Config) : 
   pub inside : is_in_lines x.stage ≡ true → names_at (code_of p k) x.line ≤ length x.rows
   pub leaving : is_leaving x.stage ≡ true → (s : InScope) → scope_in x.entered ≡ Some s → LeavesKnown p k told x s
 
-never : {A : Type 0} → false ≡ true → A
-never e = absurd (let no_way : ⊥ = cc in no_way)
-
 -- where it runs
 running : (p : Program) (k : ℕ) (told : List Told) (y : Config) → y.stage ≡ Running → names_at (code_of p k) y.line ≤ length y.rows
     → KnowsNames p k told y
-running p k told y s h = record { inside = λ e. h; leaving = λ e. never (sym (ap is_leaving s) ∙ e) }
+running p k told y s h = record { inside = λ e. h; leaving = λ e. absurd (false≢true (sym (ap is_leaving s) ∙ e)) }
 
 -- where nothing is asked
 elsewhere : (p : Program) (k : ℕ) (told : List Told) (y : Config) (s : Stage) → y.stage ≡ s → is_in_lines s ≡ false → is_leaving s ≡ false
     → KnowsNames p k told y
 elsewhere p k told y s e i l = record {
-  inside = λ f. never (sym i ∙ sym (ap is_in_lines e) ∙ f);
+  inside = λ f. absurd (false≢true (sym i ∙ sym (ap is_in_lines e) ∙ f));
   leaving =
-      λ f. never (sym l ∙ sym (ap is_leaving e) ∙ f);
+      λ f. absurd (false≢true (sym l ∙ sym (ap is_leaving e) ∙ f));
 }
 
 -- at the same line
 at_line_still : (p : Program) (k : ℕ) (told : List Told) (x : Config) (s : Stage) → is_leaving s ≡ false
     → names_at (code_of p k) x.line ≤ length x.rows → KnowsNames p k told (at_stage s x)
-at_line_still p k told x s l h = record { inside = λ e. h; leaving = λ e. never (sym l ∙ e) }
+at_line_still p k told x s l h = record { inside = λ e. h; leaving = λ e. absurd (false≢true (sym l ∙ e)) }
 
 -- behind a line that gives no name
 behind_line : (p : Program) (k : ℕ) (told : List Told) (x : Config) (l : Instruction) (y : Config)
@@ -278,13 +266,6 @@ after_knows : (p : Program) (k : ℕ) (t : List Told) (x : Config) (i : Instruct
     → names_at (code_of p k) x.line ≤ length x.rows → LineIs p k x i → is_in_lines x.stage ≡ true → After p k x i a y → KnowsNames p k t y
 after_knows p k t x _ _ _ ok h at s (After.waits i w) = at_line_still p k t x (Waiting w) refl h
 after_knows p k t x _ _ _ ok h at s (After.no_place i) = elsewhere p k t _ (Unwinding (Some k)) refl refl refl
-after_knows p k t x _ _ y ok h at s (After.sent c o) = behind_line p k t x _ y h at refl refl refl refl
-after_knows p k t x _ _ y ok h at s (After.tried_to_send c o) = behind_line p k t x _ y h at refl refl refl refl
-after_knows p k t x _ _ y ok h at s (After.got c v) = behind_line p k t x _ y h at refl refl refl refl
-after_knows p k t x _ _ y ok h at s (After.no_more c v) = behind_line p k t x _ y h at refl refl refl refl
-after_knows p k t x _ _ y ok h at s (After.tried_and_got c v) = behind_line p k t x _ y h at refl refl refl refl
-after_knows p k t x _ _ y ok h at s (After.tried_to_get c) = behind_line p k t x _ y h at refl refl refl refl
-after_knows p k t x _ _ y ok h at s (After.got_one_more c v) = behind_line p k t x _ y h at refl refl refl refl
 after_knows p k t x _ _ y ok h at s (After.got_all c v e f) =
     past_line p k t x e y h (names_past (code_of p k) x.line e _ at refl refl f (each_gives_none p k x.line c ok at)) refl refl refl
 after_knows p k t x _ _ y ok h at s (After.chose_send e f) =
@@ -298,8 +279,8 @@ after_knows p k t x _ _ _ ok h at s After.looks_again = record { inside = λ e. 
     apart : {A : Type 0} (s : Stage) → is_in_lines s ≡ true → is_leaving s ≡ true → A
     apart Fresh i l = cc
     apart other i l = cc
-after_knows p k t x _ _ y ok h at s (After.joined job v) = behind_line p k t x _ y h at refl refl refl refl
 after_knows p k t x _ _ _ ok h at s (After.awaited job v) = at_line_still p k t x SeesJob refl h
+after_knows p k t x _ _ y ok h at s other = behind_line p k t x _ y h at refl refl refl refl
 
 after_await_knows : (p : Program) (k : ℕ) (t : List Told) (x : Config) (job : ℕ) (end : End) (y : Config)
     → names_at (code_of p k) x.line ≤ length x.rows → LineIs p k x (line.Await job) → AfterAwait x end y → KnowsNames p k t y
@@ -313,7 +294,7 @@ after_await_knows p k t x job _ y h at (AfterAwait.failed f) = elsewhere p k t y
 leaves : (p : Program) (k : ℕ) (t : List Told) (x : Config) (s : InScope) (stage : Stage) → scope_in x.entered ≡ Some s
     → LeavesKnown p k t x s → is_in_lines stage ≡ false → KnowsNames p k t (at_stage stage x)
 leaves p k t x s stage e l i = record {
-  inside = λ f. never (sym i ∙ f);
+  inside = λ f. absurd (false≢true (sym i ∙ f));
   leaving = λ f u g. let same : s ≡ u = let both_ways : Some s ≡ Some u = sym e ∙ g in cc in still (subst (LeavesKnown p k t x) same l);
 }
   where
@@ -338,7 +319,7 @@ later_told p k told more x s (LeavesKnown.broken b) = LeavesKnown.broken (list_a
 end_seen : (p : Program) (k : ℕ) (told more : List Told) (x : Config)
     → ((s : InScope) → scope_in x.entered ≡ Some s → LeavesKnown p k told x s) → KnowsNames p k (told ++ more) (at_stage SeesScope x)
 end_seen p k told more x known = record {
-  inside = λ f. never f;
+  inside = λ f. absurd (false≢true f);
   leaving = λ f u g. still u (later_told p k told more x u (known u g));
 }
   where
@@ -366,15 +347,8 @@ breaks_tell : (p : Program) (k : ℕ) (row : ℕ) (failure : Option ℕ) (group 
     → list_any (tells_cancelling row) group ≡ true
 breaks_tell p k row failure group b =
     ap (list_any (tells_cancelling row)) b.all ∙ list_any-append (tells_cancelling row) b.cancels (on_jobs (IsCancelling row) ∷ b.end)
-    ∙ ap (λ c. list_any (tells_cancelling row) b.cancels || (c || list_any (tells_cancelling row) b.end)) (same_number row)
-    ∙ or_true (list_any (tells_cancelling row) b.cancels)
-  where
-    or_true : (b : Bool) → (b || true) ≡ true
-    or_true true = refl
-    or_true false = refl
-
-    same_number : (n : ℕ) → (n == n) ≡ true
-    same_number n = grind (arith, nat_tests)
+    ∙ ap (λ c. list_any (tells_cancelling row) b.cancels || (c || list_any (tells_cancelling row) b.end)) (eq-eqb row row refl)
+    ∙ or_right (list_any (tells_cancelling row) b.cancels) true refl
 
 -- ---- moves
 
@@ -386,8 +360,6 @@ move_knows p k told _ _ _ ok h n a (Move.calls x y i group answer at c f) =
     after_knows p k _ x i answer y ok (n.inside (at_in_lines p k x i at)) at.line_is (at_in_lines p k x i at) f
 move_knows p k told _ _ _ ok h n a (Move.resumes x y w i outcome answer s at m f) =
     after_knows p k _ x i answer y ok (n.inside (ap is_in_lines s)) at (ap is_in_lines s) f
-move_knows p k told _ _ y ok h n a (Move.cancelled x w s) = elsewhere p k _ y (Unwinding None) refl refl refl
-move_knows p k told _ _ y ok h n a (Move.gives_up x w group s g) = elsewhere p k _ y (Unwinding None) refl refl refl
 move_knows p k told _ _ _ ok h n a (Move.sees_job x y job row end s at m f) =
     after_await_knows p k _ x job end y (n.inside (ap is_in_lines s)) at f
 move_knows p k told _ _ y ok h n a (Move.closes x c group at g) =
@@ -396,8 +368,6 @@ move_knows p k told _ _ y ok h n a (Move.cancels_channel x c group at g) =
     behind_line p k _ x _ y (n.inside (at_in_lines p k x _ at)) at.line_is refl refl refl refl
 move_knows p k told _ _ y ok h n a (Move.yields x at) =
     behind_line p k _ x _ y (n.inside (at_in_lines p k x _ at)) at.line_is refl refl refl refl
-move_knows p k told _ _ y ok h n a (Move.stops_at_yield x at) = elsewhere p k _ y (Unwinding None) refl refl refl
-move_knows p k told _ _ y ok h n a (Move.stops_at_join x job at) = elsewhere p k _ y (Unwinding None) refl refl refl
 move_knows p k told _ _ y ok h n a (Move.launches x block how job now at) =
     launch_knows p k _ x block how job y ok (n.inside (at_in_lines p k x _ at)) at.line_is refl refl refl
 move_knows p k told _ _ y ok h n a (Move.launch_refused x block how job group at g) = elsewhere p k _ y (Unwinding (Some k)) refl refl refl
@@ -439,20 +409,21 @@ move_knows p k told _ _ _ ok h n a (Move.breaks_scope x y s failure break group 
     ∙ ap (λ q. q || list_any (tells_cancelling s.row) group) (breaks_tell p k s.row failure break b) in
     let told_so : list_any (tells_cancelling s.row) (told ++ all) ≡ true =
     list_any-append (tells_cancelling s.row) told all ∙ ap (λ q. list_any (tells_cancelling s.row) told || q) here
-    ∙ or_true (list_any (tells_cancelling s.row) told) in
+    ∙ or_right (list_any (tells_cancelling s.row) told) true refl in
     scope_end_knows p k _ x s answer y e (LeavesKnown.broken told_so) f
-  where
-    or_true : (b : Bool) → (b || true) ≡ true
-    or_true true = refl
-    or_true false = refl
 move_knows p k told _ _ y ok h n a (Move.breaks x failure group t e b) = elsewhere p k _ y Ended refl refl refl
 move_knows p k told _ _ y ok h n a (Move.ends x group t e b) = elsewhere p k _ y Ended refl refl refl
+move_knows p k told _ _ y ok h n a other = elsewhere p k _ y (Unwinding None) refl refl refl
 
 -- ---- beginnings
 
 -- before its first line no name is given
 first_knows : (p : Program) (k : ℕ) (told : List Told) (x : Config) → x.line ≡ 0 → is_leaving x.stage ≡ false → KnowsNames p k told x
-first_knows p k told x e l = record { inside = λ f. omega (arith, ap (names_at (code_of p k)) e); leaving = λ f. never (sym l ∙ f) }
+first_knows p k told x e l = record {
+  inside = λ f. omega (arith, ap (names_at (code_of p k)) e);
+  leaving =
+      λ f. absurd (false≢true (sym l ∙ f));
+}
 
 spawns_know : (p : Program) (told : List Told) (blocks : List ℕ) (x : Config) (group : List Told) (y : Config) → x.line ≡ 0
     → is_leaving x.stage ≡ false → Spawns p blocks x group y → KnowsNames p 0 told y

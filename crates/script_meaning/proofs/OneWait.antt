@@ -1,5 +1,6 @@
 -- Where a coroutine waits, that wait is its own and unsettled, and it has no other.
 use Rattle.std.proofs.Common.{◌≡◌, ℕ, ◌<◌, Bool, true, false, List, ◌∷◌, ◌++◌, length, refl, ap, sym, ◌∙◌, subst, Option, Some, None, if◌then◌else◌}
+use Rattle.std.proofs.lemmas.Option.{same_Some}
 use Rattle.co_base.specs.declared.names.WaitId.{WaitId}
 use Rattle.channel_model.specs.declared.acts.Act.{Act}
 use Rattle.channel_model.specs.declared.acts.Act.TheVariants.{Hand, Put, Offer, Await, Take, Admit, Drop, Spurn, Close, Void, Drain, WakeClosed, Withdraw, Settle}
@@ -9,7 +10,7 @@ use Rattle.channel_model.proofs.Waits.{same_wait-eq, same_wait-refl}
 use Rattle.note_book.specs.declared.book.Item.{Item}
 use Rattle.note_book.specs.declared.book.Item.TheVariants as item
 use Rattle.note_book.specs.Items.{channel_acts_in}
-use Rattle.call_meaning.specs.Telling.{Told, note, on_channels, on_jobs, items_in}
+use Rattle.call_meaning.specs.Telling.{Told, note, items_in}
 use Rattle.call_meaning.specs.Stories.{Moment}
 use Rattle.script_grammar.specs.Programs.{Program}
 use Rattle.script_meaning.specs.Shapes.{floor_shape}
@@ -46,8 +47,7 @@ unfolding items_in
 behind_one w b (note (item.Channel n)) more = ap (λ l. unsettled_after w b (l ++ channel_acts_in (items_in more))) (act_of_note n)
     ∙ by_list w b (act_in_note n) (channel_acts_in (items_in more))
 behind_one w b (note (item.Job n)) more = refl
-behind_one w b (on_channels fact) more = refl
-behind_one w b (on_jobs fact) more = refl
+behind_one w b other more = refl
 
 waitless_by : (w : WaitId) (b : Bool) (o : Option Act) → is_waitless o ≡ true → by_told w o b ≡ b
 waitless_by w b None e = refl
@@ -66,9 +66,6 @@ waitless_by w b (Some (WakeClosed c q)) e = refl
 waitless_by w b (Some (Withdraw u why)) e = refl
 waitless_by w b (Some (Settle u outcome)) e = cc
 
-same_name : (u v : WaitId) → Some u ≡ Some v → u ≡ v
-same_name u v e = cc
-
 or_it : (b c : Bool) → (c ≡ true → b ≡ true) → (if b then true else c) ≡ b
 or_it true c h = refl
 or_it false true h = sym (h refl)
@@ -76,9 +73,9 @@ or_it false false h = refl
 
 named_is : (w u : WaitId) (a : Act) (b : Bool) → named_by a ≡ Some u → (b ≡ true → same_wait u w ≡ true)
     → unsettled_by w a b ≡ same_wait u w
-named_is w u (Offer c q v z n) b e h = subst (λ y. (if same_wait y w then true else b) ≡ same_wait u w) (sym (same_name z u e))
+named_is w u (Offer c q v z n) b e h = subst (λ y. (if same_wait y w then true else b) ≡ same_wait u w) (sym (same_Some z u e))
     (or_it (same_wait u w) b h)
-named_is w u (Await c q z n) b e h = subst (λ y. (if same_wait y w then true else b) ≡ same_wait u w) (sym (same_name z u e))
+named_is w u (Await c q z n) b e h = subst (λ y. (if same_wait y w then true else b) ≡ same_wait u w) (sym (same_Some z u e))
     (or_it (same_wait u w) b h)
 named_is w u (Hand c q v) b e h = cc
 named_is w u other b e h = cc

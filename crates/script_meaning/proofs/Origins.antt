@@ -2,9 +2,10 @@
 use mathlib.Core.List.{IsPrefix}
 use Rattle.std.specs.Prelude.{◌≡◌, ◌≢◌, ℕ, ◌==◌, Bool, true, false, ◌||◌, ◌⊎◌, List, [], ◌∷◌, ◌++◌, Option, Some, None, if◌then◌else◌, refl}
 use Rattle.std.proofs.Common.{sym, ap, ◌∙◌, subst, inl, inr}
-use Rattle.std.proofs.lemmas.Bool.{eqb-true, or_left, or_right}
+use Rattle.std.proofs.lemmas.Bool.{eqb-true, or_left, or_right, or_cases}
+use Rattle.std.proofs.Math.Bool.{or-false}
 use Rattle.job_model.specs.declared.acts.JobState.{JobState}
-use Rattle.job_model.specs.declared.acts.JobState.TheVariants.{New, Active, Completing, Cancelling, Cancelled, Completed}
+use Rattle.job_model.specs.declared.acts.JobState.TheVariants.{Active, Completing, Cancelling, Cancelled, Completed}
 use Rattle.job_model.specs.declared.acts.JobKind.{JobKind}
 use Rattle.job_model.specs.declared.acts.End.{End}
 use Rattle.job_model.specs.declared.acts.End.TheVariants as ends
@@ -19,10 +20,6 @@ use Rattle.job_model.specs.Laws.{has}
 use Rattle.job_model.proofs.Steps.{RowStep, row_step}
 use Rattle.job_model.proofs.Rows.{same}
 use Rattle.script_meaning.specs.Origins.{origin_in, or_else, origin_of}
-
-or_nothing : (b : Bool) → (b || false) ≡ b
-or_nothing true = refl
-or_nothing false = refl
 
 -- ---- what stays
 
@@ -61,20 +58,15 @@ first_lazy false true P e f = cc
 first_lazy false false P e f = cc
 
 body_live : (s : JobState) → is_cancellable (state_after_body s) ≡ true → is_cancellable s ≡ true
-body_live New e = refl
-body_live Active e = refl
-body_live Completing e = refl
 body_live Cancelling e = cc
 body_live Cancelled e = cc
 body_live Completed e = cc
+body_live other e = refl
 
 body_active : (s : JobState) → is_active (state_after_body s) ≡ true → is_active s ≡ true
-body_active New e = cc
 body_active Active e = refl
 body_active Completing e = refl
-body_active Cancelling e = cc
-body_active Cancelled e = cc
-body_active Completed e = cc
+body_active other e = cc
 
 not_live : (end : End) (P : Type 0) → is_cancellable (state_of_end end) ≡ true → P
 not_live (ends.Completed v) P e = cc
@@ -148,7 +140,7 @@ origin_from : (shape : Shape) (tree : Tree) (es : List JobEntry) (k : ℕ) (o : 
     → RowHasOrigin (replay_from tree es k) (or_else o (origin_of k es)) (begun || has starts k es)
 unfolding LegalFrom replay_from origin_of
 origin_from shape tree [] k o begun l h = subst (λ u. RowHasOrigin (tree k) u (begun || false)) (sym (or_else_none o))
-    (subst (RowHasOrigin (tree k) o) (sym (or_nothing begun)) h)
+    (subst (RowHasOrigin (tree k) o) (sym (or-false begun)) h)
 origin_from shape tree (e ∷ es) k o begun l h =
     let rest = origin_from shape (after tree e.who e.act) es k (or_else o (origin_in k e.act)) (begun
     || starts k e.act) l.1 (origin_step shape tree e.who k e.act _ _ o begun (row_step shape tree e.who e.act k l.0) h) in
@@ -164,12 +156,9 @@ pub record WasAttached (k : ℕ) (J : List JobEntry) : Type 0 where
   pub started : kind.lazy ≡ true → has starts k J ≡ true
 
 active_live : (s : JobState) → is_active s ≡ true → is_cancellable s ≡ true
-active_live New e = cc
 active_live Active e = refl
 active_live Completing e = refl
-active_live Cancelling e = cc
-active_live Cancelled e = cc
-active_live Completed e = cc
+active_live other e = cc
 
 none_at_start : (k : ℕ) → k ≢ 0 → RowHasOrigin (start k) None false
 none_at_start k z = by_test (k == 0) refl
@@ -191,15 +180,11 @@ active_origin shape J k j l e a z =
 
 -- ---- rows that are attached
 
-either : (a b : Bool) → (a || b) ≡ true → (a ≡ true) ⊎ (b ≡ true)
-either true b h = inl refl
-either false b h = inr h
-
 -- a row that was attached has an origin
 pub some_origin : (k : ℕ) (es : List JobEntry) → has attaches k es ≡ true → (o : JobKind × Bool) × (origin_of k es ≡ Some o)
 unfolding origin_of
 some_origin k [] h = cc
-some_origin k (e ∷ es) h = by_act e.act (either (attaches k e.act) (has attaches k es) h) (some_origin k es)
+some_origin k (e ∷ es) h = by_act e.act (or_cases (attaches k e.act) (has attaches k es) h) (some_origin k es)
   where
     here : (act : JobAct) → attaches k act ≡ true → (o : JobKind × Bool) × (origin_in k act ≡ Some o)
     here (Attach p q kind tag now) t = by_test (k == q) t

@@ -1,26 +1,27 @@
 -- What legality says of the acts of one caller, one after the other: a row that is attached was not attached before, and its body had not
 -- ended; and it is a row for such a Job.
 use Rattle.std.proofs.lemmas.List.{append-nil}
-use Rattle.std.specs.Prelude.{◌≡◌, ℕ, ◌==◌, ◌<◌, ◌≤◌, Bool, true, false, ◌||◌, List, [], ◌∷◌, ◌++◌, Option, Some, None, MatchBool, is_some, if◌then◌else◌, refl}
+use Rattle.std.specs.Prelude.{◌≡◌, ℕ, ◌==◌, ◌<◌, Bool, true, false, ◌||◌, List, [], ◌∷◌, ◌++◌, Option, Some, None, is_some, if◌then◌else◌, refl}
 use Rattle.std.specs.List.{list_any}
 use mathlib.Core.List.{IsPrefix}
-use Rattle.std.proofs.Common.{sym, ap, ◌∙◌, subst, arith, append_assoc}
-use Rattle.std.proofs.lemmas.Bool.{eqb-true}
+use Rattle.std.proofs.Common.{sym, ap, ◌∙◌, subst, append_assoc}
+use Rattle.std.proofs.lemmas.Bool.{eqb-true, or_parts}
 use Rattle.job_model.specs.declared.acts.JobKind.{JobKind}
 use Rattle.job_model.specs.declared.acts.JobAct.{JobAct}
 use Rattle.job_model.specs.declared.acts.JobAct.TheVariants.{Attach, Start}
 use Rattle.job_model.specs.declared.acts.JobEntry.{JobEntry}
-use Rattle.job_model.specs.Trees.{Shape, IsShape, Job, Tree, start}
+use Rattle.job_model.specs.Trees.{Shape, Job, Tree, start}
 use Rattle.job_model.specs.Acts.{attaches, ends_body}
 use Rattle.job_model.specs.Effects.{after, new_child}
 use Rattle.job_model.specs.Needs.{Needs, IsRowFor}
-use Rattle.job_model.specs.Histories.{replay, Legal, LegalFrom, acts_of}
+use Rattle.job_model.specs.Histories.{replay, Legal, acts_of}
 use Rattle.job_model.specs.Laws.{has, has_ended_body}
 use Rattle.job_model.proofs.Histories.{Legal-prefix, LegalFrom-parts, LegalFrom-cons, acts_of-append, replay_push}
 use Rattle.job_model.proofs.Lasting.{Lasts}
 use Rattle.job_model.proofs.Own.{prefix_keeps}
 use Rattle.job_model.proofs.Families.{attached_now}
 use Rattle.job_model.proofs.Ends.{by_entries}
+pub use Rattle.job_model.proofs.Short.{attached_within}
 
 -- ---- acts that may come where they come
 
@@ -58,12 +59,8 @@ none_own : (t : JobAct → Bool) (who : ℕ) (es : List JobEntry) → list_any (
     → list_any t (acts_of who es) ≡ false
 unfolding acts_of
 none_own t who [] h = refl
-none_own t who (e ∷ es) h = let two = either (t e.act) _ h in by_test (e.who == who) two.0 (none_own t who es two.1)
+none_own t who (e ∷ es) h = let two = or_parts (t e.act) _ h in by_test (e.who == who) two.0 (none_own t who es two.1)
   where
-    either : (a b : Bool) → (a || b) ≡ false → (a ≡ false) × (b ≡ false)
-    either true b e = cc
-    either false b e = (refl, e)
-
     by_test : (b : Bool) → t e.act ≡ false → list_any t (acts_of who es) ≡ false
         → list_any t (if b then e.act ∷ acts_of who es else acts_of who es) ≡ false
     by_test true k more = ap (λ c. c || list_any t (acts_of who es)) k ∙ more
@@ -73,11 +70,7 @@ unattached : (shape : Shape) (xs : List JobEntry) (r : ℕ) → Legal shape xs �
     × (has ends_body r xs ≡ false)
 unattached shape xs r l none =
     let m = by_entries shape xs r l in
-    ((right (r == 0) (has attaches r xs) (sym m.attached ∙ ap is_some none)), sym m.bodiless ∙ ap has_ended_body none)
-  where
-    right : (a b : Bool) → (a || b) ≡ false → b ≡ false
-    right true b e = cc
-    right false b e = e
+    ((or_parts (r == 0) (has attaches r xs) (sym m.attached ∙ ap is_some none)).1, sym m.bodiless ∙ ap has_ended_body none)
 
 one_placed : (shape : Shape) (who : ℕ) (xs : List JobEntry) (act : JobAct) → Legal shape xs → Needs shape (replay xs) who act
     → MayComeNext shape who (acts_of who xs) act
@@ -165,39 +158,3 @@ attached_keeps P lasts shape jobs who parent r kind tag now l h is =
     ∙ attached_now (replay h.before) h.entry.who parent r kind tag now in
     let longer : IsPrefix (h.before ++ h.entry ∷ []) jobs = (h.behind, append_assoc h.before (h.entry ∷ []) h.behind ∙ sym h.parts) in
     prefix_keeps P lasts shape (h.before ++ h.entry ∷ []) jobs r l longer (subst P (sym here) is)
-
--- ---- attached rows are rows of the shape
-
-row_within : (shape : Shape) (who : ℕ) (kind : JobKind) (tag r : ℕ) → shape.coroutines ≤ shape.rows → tag < shape.coroutines
-    → IsRowFor shape who kind tag r → r < shape.rows
-row_within shape who kind tag r fit lt i = by_kind kind.scoped i
-  where
-    by_kind : (b : Bool) → MatchBool b ((tag ≡ who) × (shape.coroutines ≤ r) × (r < shape.rows)) (r ≡ tag) → r < shape.rows
-    by_kind true m = m.2
-    by_kind false m = omega (arith, m, fit, lt)
-
-act_within : (shape : Shape) (tree : Tree) (who r : ℕ) (act : JobAct) → shape.coroutines ≤ shape.rows → Needs shape tree who act
-    → attaches r act ≡ true → r < shape.rows
-act_within shape tree who r (Attach p q kind tag now) fit n e =
-    subst (λ z. z < shape.rows) (sym (eqb-true r q e)) (row_within shape who kind tag q fit n.2 n.3)
-act_within shape tree who r (Start q) fit n e = cc
-act_within shape tree who r other fit n e = cc
-
-has_within : (shape : Shape) (tree : Tree) (es : List JobEntry) (r : ℕ) → shape.coroutines ≤ shape.rows → LegalFrom shape tree es
-    → has attaches r es ≡ true → r < shape.rows
-unfolding LegalFrom
-has_within shape tree [] r fit l h = cc
-has_within shape tree (e ∷ es) r fit l h = by_test (has_within shape (after tree e.who e.act) es r fit l.1) (attaches r e.act) refl h
-  where
-    by_test : (has attaches r es ≡ true → r < shape.rows) → (b : Bool) → attaches r e.act ≡ b → (b || has attaches r es) ≡ true
-        → r < shape.rows
-    by_test more true k m = act_within shape tree e.who r e.act fit l.0 k
-    by_test more false k m = more m
-
-pub attached_within : (shape : Shape) (jobs : List JobEntry) (r : ℕ) → IsShape shape → Legal shape jobs → is_some (replay jobs r) ≡ true
-    → r < shape.rows
-attached_within shape jobs r fits l h = by_test (r == 0) refl (sym (by_entries shape jobs r l).attached ∙ h)
-  where
-    by_test : (b : Bool) → (r == 0) ≡ b → (b || has attaches r jobs) ≡ true → r < shape.rows
-    by_test true e m = let z : r ≡ 0 = eqb-true r 0 e in omega (arith, z, fits.some, fits.fit)
-    by_test false e m = has_within shape start jobs r fits.fit l m

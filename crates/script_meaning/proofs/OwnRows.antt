@@ -1,81 +1,37 @@
 -- What a caller knows of the Jobs that are its own: each has its tag, and only its own acts end their bodies.
 use Rattle.std.proofs.lemmas.List.{append-nil}
-use Rattle.std.specs.Prelude.{◌≡◌, ℕ, zero, suc, ◌<◌, ◌≤◌, ◌==◌, ◌⊎◌, Bool, true, false, ◌&&◌, ◌||◌, List, [], ◌∷◌, ◌++◌, Option, Some, None, MatchBool, is_some, option_map, if◌then◌else◌, refl}
+use Rattle.std.specs.Prelude.{◌≡◌, ℕ, zero, suc, ◌<◌, ◌≤◌, ◌==◌, ◌⊎◌, Bool, true, false, ◌||◌, List, [], ◌∷◌, Option, Some, None, MatchBool, is_some, option_map, if◌then◌else◌, refl}
 use Rattle.std.specs.List.{list_any}
 use mathlib.Core.List.{IsPrefix}
-use Rattle.std.proofs.Common.{sym, ap, ◌∙◌, subst, arith, append_assoc, ⊎_elim}
-use Rattle.std.proofs.lemmas.Bool.{eqb-true, eq-eqb}
+use Rattle.std.proofs.Common.{sym, ap, ◌∙◌, subst, arith, ⊎_elim}
+use Rattle.std.proofs.lemmas.Bool.{eqb-true, eq-eqb, or_right}
 use Rattle.std.proofs.lemmas.Bool.Decides.{nat_tests}
 use Rattle.job_model.specs.declared.acts.JobState.{JobState}
 use Rattle.job_model.specs.declared.acts.JobState.TheVariants.{New, Active, Completing, Cancelling, Cancelled, Completed}
-use Rattle.job_model.specs.declared.acts.End.{End}
 use Rattle.job_model.specs.declared.acts.End.TheVariants as ends
 use Rattle.job_model.specs.declared.acts.JobAct.{JobAct}
-use Rattle.job_model.specs.declared.acts.JobAct.TheVariants.{Attach, Start, EndBody, Cancel, Finish, Gone}
+use Rattle.job_model.specs.declared.acts.JobAct.TheVariants.{EndBody}
 use Rattle.job_model.specs.declared.acts.JobEntry.{JobEntry}
 use Rattle.job_model.specs.declared.floor.JobView.{JobView}
-use Rattle.job_model.specs.Trees.{Shape, Job, Tree, root, start, is_new, is_active, is_ended, is_cancellable, is_failure_of, tag_of, state_of}
+use Rattle.job_model.specs.Trees.{Shape, Job, Tree, root, start, is_new, is_active, is_ended, tag_of, state_of}
 use Rattle.job_model.specs.Acts.{ends_body}
-use Rattle.job_model.specs.Effects.{after, state_after_body, state_of_end}
+use Rattle.job_model.specs.Effects.{after}
 use Rattle.job_model.specs.Needs.{Needs, OwnsBody, MayEndBody, any_below, ended_by_failure}
 use Rattle.job_model.specs.Families.{IsEnded}
 use Rattle.job_model.specs.Histories.{replay, replay_from, Legal, LegalFrom, acts_of}
 use Rattle.job_model.specs.Floors.{Floor, Looked}
 use Rattle.job_model.specs.Laws.{IsSoundRow, has, has_ended_body, is_bodiless}
 use Rattle.job_model.specs.Answers.{IsNotNew, LookAnswer, view_of}
-use Rattle.job_model.proofs.Histories.{acts_of-append, Legal-prefix}
+use Rattle.job_model.proofs.Histories.{Legal-prefix}
 use Rattle.job_model.proofs.Steps.{RowStep, row_step}
-use Rattle.job_model.proofs.Lasting.{Lasts, act_keeps, history_keeps, tag_lasts}
+use Rattle.job_model.proofs.Lasting.{act_keeps, history_keeps, tag_lasts}
 use Rattle.job_model.proofs.Own.{prefix_keeps}
 use Rattle.job_model.proofs.Ends.{by_entries}
 use Rattle.job_model.proofs.Families.{replay_families}
 use Rattle.call_meaning.specs.Facts.{IsRunning}
 use Rattle.script_meaning.specs.Idle.{IsNotStarted}
 use Rattle.script_meaning.specs.Bodies.{IsOwnRow, HasBodyAt}
-
--- ---- what lasts of a Job
-
-ended_after_body : (s : JobState) (b : Bool) → (is_ended s && b) ≡ true → (is_ended (state_after_body s) && b) ≡ true
-ended_after_body New b e = cc
-ended_after_body Active b e = cc
-ended_after_body Completing b e = cc
-ended_after_body Cancelling b e = cc
-ended_after_body Cancelled b e = e
-ended_after_body Completed b e = e
-
-not_both : (s : JobState) (b : Bool) → is_cancellable s ≡ true → (is_ended s && b) ≡ true → ⊥
-not_both New b c e = cc
-not_both other b c e = cc
-
-new_not_ended : (s : JobState) (b : Bool) → s ≡ New → (is_ended s && b) ≡ true → ⊥
-new_not_ended s b e f = let k : (is_ended New && b) ≡ true = ap (λ t. is_ended t && b) (sym e) ∙ f in cc
-
-ended_end : (end : End) (s : JobState) (b : Bool) → (is_ended s && b) ≡ true → (is_ended (state_of_end end) && b) ≡ true
-ended_end (ends.Completed v) s true e = refl
-ended_end (ends.Completed v) New false e = cc
-ended_end (ends.Completed v) Active false e = cc
-ended_end (ends.Completed v) Completing false e = cc
-ended_end (ends.Completed v) Cancelling false e = cc
-ended_end (ends.Completed v) Cancelled false e = cc
-ended_end (ends.Completed v) Completed false e = cc
-ended_end (ends.Cancelled cause) s true e = refl
-ended_end (ends.Cancelled cause) New false e = cc
-ended_end (ends.Cancelled cause) other false e = cc
-
--- that it has ended by the failure of f
-pub failure_lasts : (f : ℕ) → Lasts (λ x. ended_by_failure f x ≡ true)
-failure_lasts f = record {
-  child = λ r j live h. h;
-  start = λ j n h. absurd (new_not_ended j.state (is_failure_of f j.cause) n h);
-  body = λ v j h. ended_after_body j.state (is_failure_of f j.cause) h;
-  cancel = λ cause j c h. absurd (not_both j.state (is_failure_of f j.cause) c h);
-  finish = λ who end j m h. ended_end end j.state (is_failure_of f j.cause) h;
-  told = λ c j h. h;
-  attached = λ h x. absurd (not_there h);
-}
-  where
-    not_there : ended_by_failure f None ≡ true → ⊥
-    not_there e = cc
+use Rattle.job_model.proofs.Spans.{same_between}
 
 pub any_here : (n q : ℕ) (test : ℕ → Bool) → q < n → test q ≡ true → any_below n test ≡ true
 any_here zero q test lt h = absurd (omega (arith, lt))
@@ -84,13 +40,9 @@ any_here (suc n) q test lt h = by_test (q == n) refl (any_here n q test)
     below : (q n : ℕ) → q < suc n → (q == n) ≡ false → q < n
     below q n lt e = grind (arith, nat_tests)
 
-    right : (a b : Bool) → b ≡ true → (a || b) ≡ true
-    right true b e = refl
-    right false b e = e
-
     by_test : (b : Bool) → (q == n) ≡ b → (q < n → test q ≡ true → any_below n test ≡ true) → (test n || any_below n test) ≡ true
     by_test true e more = ap (λ z. z || any_below n test) (ap test (sym (eqb-true q n e)) ∙ h)
-    by_test false e more = right (test n) (any_below n test) (more (below q n lt e) h)
+    by_test false e more = or_right (test n) (any_below n test) (more (below q n lt e) h)
 
 -- ---- the row of a coroutine has its tag
 
@@ -142,12 +94,8 @@ same_tag who n (Some j) m = ap (λ t. Some t) m.0
 
 ender : (shape : Shape) (tree : Tree) (who r : ℕ) (act : JobAct) → Needs shape tree who act → ends_body r act ≡ true
     → tag_of (tree r) ≡ Some who
-ender shape tree who r (Attach p q kind tag cancelled) n e = cc
-ender shape tree who r (Start q) n e = cc
 ender shape tree who r (EndBody q v) n e = subst (λ z. tag_of (tree z) ≡ Some who) (sym (eqb-true r q e)) (same_tag who who (tree q) n)
-ender shape tree who r (Cancel q reason) n e = cc
-ender shape tree who r (Finish q end) n e = cc
-ender shape tree who r (Gone q) n e = cc
+ender shape tree who r other n e = cc
 
 own_ends_from : (shape : Shape) (tree : Tree) (es : List JobEntry) (r who : ℕ) → LegalFrom shape tree es
     → tag_of (replay_from tree es r) ≡ Some who → has ends_body r es ≡ true → list_any (ends_body r) (acts_of who es) ≡ true
@@ -224,27 +172,6 @@ pub not_new_started : (x : Option Job) → IsNotNew x → IsNotStarted x → ⊥
 not_new_started None h n = h
 not_new_started (Some j) h n = let u : true ≡ false = sym (ap is_new n) ∙ h in cc
 
--- ---- between two moments
-
-nothing_left : {A : Type 0} (xs ys : List A) → xs ++ ys ≡ xs → ys ≡ []
-nothing_left [] ys e = e
-nothing_left (x ∷ xs) ys e = nothing_left xs ys (let k : xs ++ ys ≡ xs = cc in k)
-
-front_empty : {A : Type 0} (xs ys : List A) → xs ++ ys ≡ [] → xs ≡ []
-front_empty [] ys e = refl
-front_empty (x ∷ xs) ys e = cc
-
--- what is between two histories with the same acts of the caller has them too
-pub same_between : (who : ℕ) (xs ys zs : List JobEntry) → IsPrefix xs ys → IsPrefix ys zs → acts_of who zs ≡ acts_of who xs
-    → acts_of who ys ≡ acts_of who xs
-same_between who xs ys zs p q e =
-    let a : acts_of who ys ≡ acts_of who xs ++ acts_of who p.0 = ap (acts_of who) (sym p.1) ∙ acts_of-append who xs p.0 in
-    let b : acts_of who zs ≡ acts_of who ys ++ acts_of who q.0 = ap (acts_of who) (sym q.1) ∙ acts_of-append who ys q.0 in
-    let c : acts_of who xs ++ (acts_of who p.0 ++ acts_of who q.0) ≡ acts_of who xs =
-    sym (append_assoc (acts_of who xs) (acts_of who p.0) (acts_of who q.0)) ∙ ap (λ l. l ++ acts_of who q.0) (sym a) ∙ sym b ∙ e in
-    let d : acts_of who p.0 ≡ [] = front_empty (acts_of who p.0) (acts_of who q.0) (nothing_left (acts_of who xs) _ c) in
-    a ∙ ap (λ l. acts_of who xs ++ l) d ∙ append-nil (acts_of who xs)
-
 -- ---- a body on a floor
 
 -- the body of a row of one's own, which one did not end at this moment
@@ -294,12 +221,9 @@ pub never_ended : (who row : ℕ) (v : JobView) (a b : Floor) → Legal b.shape 
 never_ended who row v a b l h look e = never_bodiless who row v a b l h look (bodiless_one v.state e)
 
 ended_bodiless : (s : JobState) → is_ended s ≡ true → is_bodiless s ≡ true
-ended_bodiless New e = cc
-ended_bodiless Active e = cc
-ended_bodiless Completing e = cc
-ended_bodiless Cancelling e = cc
 ended_bodiless Cancelled e = refl
 ended_bodiless Completed e = refl
+ended_bodiless other e = cc
 
 not_over : (x : Option Job) → IsSoundRow x → has_ended_body x ≡ false → IsEnded x → ⊥
 not_over None s o e = e

@@ -2,10 +2,10 @@
 use Rattle.script_grammar.proofs.Truths.{both_true}
 use Rattle.std.specs.Prelude.{◌≡◌, ◌≢◌, ℕ, ◌≤◌, ◌==◌, Bool, true, false, ◌&&◌, List, [], ◌∷◌, Option, Some, None, MatchBool, is_none, refl, if◌then◌else◌}
 use Rattle.std.proofs.Common.{sym, ap, ◌∙◌, subst, arith}
-use Rattle.std.proofs.lemmas.Bool.{eqb-true}
+use Rattle.std.proofs.lemmas.Bool.{eqb-true, and_from}
 use Rattle.co_base.specs.declared.names.WaitId.{WaitId}
 use Rattle.channel_model.specs.declared.acts.Act.{Act}
-use Rattle.channel_model.specs.declared.acts.Act.TheVariants.{Hand, Put, Offer, Await, Take, Admit, Drop, Spurn, Close, Void, Drain, WakeClosed, Withdraw, Settle}
+use Rattle.channel_model.specs.declared.acts.Act.TheVariants.{Hand, Offer, Await, Take, Admit, Drop, Drain, WakeClosed, Withdraw, Settle}
 use Rattle.channel_model.specs.declared.acts.Entry.{Entry}
 use Rattle.channel_model.specs.declared.acts.Settled.{Settled}
 use Rattle.channel_model.specs.declared.standing.Party.{Party}
@@ -27,11 +27,6 @@ abbrev pub is_unsettled_of : ℕ → Option Wait → Bool
 is_unsettled_of who None = false
 is_unsettled_of who (Some x) = (x.owner == who) && is_none x.settled
 
-and_true : (a b : Bool) → a ≡ true → b ≡ true → (a && b) ≡ true
-and_true true true p q = refl
-and_true true false p q = cc
-and_true false b p q = cc
-
 none_is : (o : Option Settled) → is_none o ≡ true → o ≡ None
 none_is None h = refl
 none_is (Some outcome) h = cc
@@ -43,27 +38,17 @@ unsettled_by_test who (Some x) h = let p = both_true (x.owner == who) (is_none x
 
 pub unsettled_passes : (who : ℕ) (x : Option Wait) → IsUnsettledOf who x → is_unsettled_of who x ≡ true
 unsettled_passes who None h = absurd h
-unsettled_passes who (Some x) h = and_true (x.owner == who) (is_none x.settled) (subst (λ n. (n == who) ≡ true) (sym h.0) (same_number who))
+unsettled_passes who (Some x) h = and_from (x.owner == who) (is_none x.settled) (subst (λ n. (n == who) ≡ true) (sym h.0) (same_number who))
     (ap is_none h.1)
 
 -- ---- what an act of the owner leaves
 
 -- whether the wait is unsettled after this act of its owner, where it was so before or not
 abbrev pub unsettled_by : WaitId → Act → Bool → Bool
-unsettled_by w (Hand c p v) b = b
-unsettled_by w (Put c p v) b = b
 unsettled_by w (Offer c p v u n) b = if same_wait u w then true else b
 unsettled_by w (Await c p u n) b = if same_wait u w then true else b
-unsettled_by w (Take c p v) b = b
-unsettled_by w (Admit c p) b = b
-unsettled_by w (Drop c p v) b = b
-unsettled_by w (Spurn c p v) b = b
-unsettled_by w (Close c v) b = b
-unsettled_by w (Void c) b = b
-unsettled_by w (Drain c p v) b = b
-unsettled_by w (WakeClosed c p) b = b
-unsettled_by w (Withdraw u why) b = b
 unsettled_by w (Settle u outcome) b = if same_wait u w then false else b
+unsettled_by w other b = b
 
 unfoldable pub unsettled_after : WaitId → Bool → List Act → Bool
 unsettled_after w b [] = b
@@ -124,7 +109,7 @@ named_by_other n who k c (Some x) apart = refl
 -- an earlier wait that gets a clause more is unsettled
 joined : (who k c : ℕ) (x : Option Wait) → JoinsWait who k c x → is_unsettled_of who (name_clause who k c x) ≡ true
 joined who k c None h = absurd h
-joined who k c (Some x) h = and_true (x.owner == who) (is_none x.settled) (subst (λ n. (n == who) ≡ true) (sym h.own) (same_number who))
+joined who k c (Some x) h = and_from (x.owner == who) (is_none x.settled) (subst (λ n. (n == who) ≡ true) (sym h.own) (same_number who))
     (ap is_none h.unsettled)
 
 begun : (who k c : ℕ) (x : Option Wait) → x ≡ None → is_unsettled_of who (name_clause who k c x) ≡ true
@@ -189,38 +174,32 @@ settled_by_other n who outcome w v s apart m = by_test (same_wait w v) refl
 own_act : (shape : Shape) (s : State) (who : ℕ) (act : Act) (v : WaitId) → Placed s → Needs shape s who act
     → is_unsettled_of who ((after s who act).waits v) ≡ unsettled_by v act (is_unsettled_of who (s.waits v))
 own_act shape s who (Hand c p x) v h n = by_first who v (s.channels c).receivers _ s
-own_act shape s who (Put c p x) v h n = refl
 own_act shape s who (Offer c p x w k) v h n = own_named who k c p _ w v s h n.1 n.4
 own_act shape s who (Await c p w k) v h n = own_named who k c p _ w v s h n.1 n.3
 own_act shape s who (Take c p x) v h n = by_offer who v c (s.channels c).queue _ s
 own_act shape s who (Admit c p) v h n = by_holder who v (holder_at p (s.channels c).queue) _
     (with_queue c (admitted p (s.channels c).queue) s)
 own_act shape s who (Drop c p x) v h n = by_removal who v c (s.channels c).queue s
-own_act shape s who (Spurn c p x) v h n = refl
-own_act shape s who (Close c x) v h n = refl
-own_act shape s who (Void c) v h n = refl
 own_act shape s who (Drain c p x) v h n = by_offer who v c (s.channels c).queue _ s
 own_act shape s who (WakeClosed c p) v h n = by_first who v (s.channels c).receivers _ s
 own_act shape s who (Withdraw w why) v h n = by_resolve who w v _ s
 own_act shape s who (Settle w outcome) v h n = own_settled who outcome w v s
+own_act shape s who other v h n = refl
 
 other_act : (shape : Shape) (s : State) (m who : ℕ) (act : Act) (v : WaitId) → m ≢ who → Needs shape s m act
     → is_unsettled_of who ((after s m act).waits v) ≡ is_unsettled_of who (s.waits v)
 other_act shape s m who (Hand c p x) v apart n = by_first who v (s.channels c).receivers _ s
-other_act shape s m who (Put c p x) v apart n = refl
 other_act shape s m who (Offer c p x w k) v apart n = same_there who s.waits w v (name_clause m k c) (λ y. named_by_other m who k c y apart)
 other_act shape s m who (Await c p w k) v apart n = same_there who s.waits w v (name_clause m k c) (λ y. named_by_other m who k c y apart)
 other_act shape s m who (Take c p x) v apart n = by_offer who v c (s.channels c).queue _ s
 other_act shape s m who (Admit c p) v apart n = by_holder who v (holder_at p (s.channels c).queue) _
     (with_queue c (admitted p (s.channels c).queue) s)
 other_act shape s m who (Drop c p x) v apart n = by_removal who v c (s.channels c).queue s
-other_act shape s m who (Spurn c p x) v apart n = refl
-other_act shape s m who (Close c x) v apart n = refl
-other_act shape s m who (Void c) v apart n = refl
 other_act shape s m who (Drain c p x) v apart n = by_offer who v c (s.channels c).queue _ s
 other_act shape s m who (WakeClosed c p) v apart n = by_first who v (s.channels c).receivers _ s
 other_act shape s m who (Withdraw w why) v apart n = by_resolve who w v _ s
 other_act shape s m who (Settle w outcome) v apart n = settled_by_other m who outcome w v s apart n
+other_act shape s m who other v apart n = refl
 
 -- ---- histories
 

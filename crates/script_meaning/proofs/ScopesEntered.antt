@@ -3,9 +3,10 @@
 use Rattle.std.specs.Prelude.{◌≡◌, ℕ, ◌+◌, ◌==◌, ◌<◌, ◌≤◌, Bool, true, false, ◌||◌, List, [], ◌∷◌, ◌++◌, map, Option, Some, None, refl}
 use Rattle.std.specs.List.{list_any}
 use Rattle.std.proofs.Common.{sym, ap, ◌∙◌, subst, arith, append_assoc}
-use Rattle.std.proofs.lemmas.Bool.{eqb-true, eq-eqb}
+use Rattle.std.proofs.lemmas.Bool.{eqb-true, eq-eqb, or_from, or_right}
 use Rattle.std.proofs.lemmas.Bool.Decides.{nat_tests}
 use Rattle.std.proofs.lemmas.List.Folds.{list_any-append}
+use Rattle.std.proofs.Math.Bool.{or-false}
 use Rattle.job_model.specs.declared.acts.End.{End}
 use Rattle.job_model.specs.declared.acts.Reason.{Reason}
 use Rattle.job_model.specs.declared.acts.JobAct.{JobAct}
@@ -71,18 +72,8 @@ NoneEnds group = (row : ℕ) → ends_in row group ≡ false
 abbrev pub EndsJust : ℕ → List Told → Type 0
 EndsJust row group = (r : ℕ) → ends_in r group ≡ (r == row)
 
-nor : (a b : Bool) → a ≡ false → b ≡ false → (a || b) ≡ false
-nor a b e f = ap (λ x. x || b) e ∙ f
-
-or_true : (a b : Bool) → b ≡ true → (a || b) ≡ true
-or_true true b e = refl
-or_true false b e = e
-
-same : (k : ℕ) → (k == k) ≡ true
-same k = eq-eqb k k refl
-
 pub none_then : (xs ys : List Told) → NoneEnds xs → NoneEnds ys → NoneEnds (xs ++ ys)
-none_then xs ys h k r = ends_then r xs ys ∙ nor _ _ (h r) (k r)
+none_then xs ys h k r = ends_then r xs ys ∙ or_from _ _ (h r) (k r)
 
 none_as : (xs ys : List Told) → xs ≡ ys → NoneEnds ys → NoneEnds xs
 none_as xs ys e h r = ap (ends_in r) e ∙ h r
@@ -176,19 +167,15 @@ chain_none base _ _ (Chain.goes_up row parent end closes more all ne h rest e) r
     ap (ends_in r) e ∙ none_then closes (did (Gone row) ∷ on_jobs (ParentIs row parent) ∷ more)
     (quiet_none closes (quiet_closes _ _ closes h)) (λ q. chain_none base parent more rest q) r
 
-or_nothing : (b : Bool) → (b || false) ≡ b
-or_nothing true = refl
-or_nothing false = refl
-
 end_just : (base row v : ℕ) (g : List Told) → EndsBody base row v g → EndsJust row g
 unfolding items_in
-end_just base row v _ (EndsBody.ends_body chain c) r = ap (λ b. (r == row) || b) (chain_none base row chain c r) ∙ or_nothing (r == row)
+end_just base row v _ (EndsBody.ends_body chain c) r = ap (λ b. (r == row) || b) (chain_none base row chain c r) ∙ or-false (r == row)
 
 none_first : (xs ys : List Told) (row : ℕ) → NoneEnds xs → EndsJust row ys → EndsJust row (xs ++ ys)
 none_first xs ys row h k r = ends_then r xs ys ∙ ap (λ b. b || ends_in r ys) (h r) ∙ k r
 
 none_last : (xs ys : List Told) (row : ℕ) → EndsJust row xs → NoneEnds ys → EndsJust row (xs ++ ys)
-none_last xs ys row h k r = ends_then r xs ys ∙ ap (λ b. ends_in r xs || b) (k r) ∙ or_nothing (ends_in r xs) ∙ h r
+none_last xs ys row h k r = ends_then r xs ys ∙ ap (λ b. ends_in r xs || b) (k r) ∙ or-false (ends_in r xs) ∙ h r
 
 just_as : (xs ys : List Told) (row : ℕ) → xs ≡ ys → EndsJust row ys → EndsJust row xs
 just_as xs ys row e h r = ap (ends_in r) e ∙ h r
@@ -265,22 +252,8 @@ pub record StaysIn (x y : Config) : Type 0 where
 after_line : (p : Program) (k : ℕ) (x : Config) (i : Instruction) (a : Answer) (y : Config) → is_leaving x.stage ≡ false
     → is_over x.stage ≡ false → After p k x i a y → StaysIn x y
 unfolding scope_rows
-after_line p k x _ _ _ l o (After.waits i w) = record { rows = refl; here = refl; goes = refl }
-after_line p k x _ _ _ l o (After.no_place i) = record { rows = refl; here = refl; goes = refl }
-after_line p k x _ _ _ l o (After.sent c op) = record { rows = refl; here = refl; goes = refl }
-after_line p k x _ _ _ l o (After.tried_to_send c op) = record { rows = refl; here = refl; goes = refl }
-after_line p k x _ _ _ l o (After.got c v) = record { rows = refl; here = refl; goes = refl }
-after_line p k x _ _ _ l o (After.no_more c v) = record { rows = refl; here = refl; goes = refl }
-after_line p k x _ _ _ l o (After.tried_and_got c v) = record { rows = refl; here = refl; goes = refl }
-after_line p k x _ _ _ l o (After.tried_to_get c) = record { rows = refl; here = refl; goes = refl }
-after_line p k x _ _ _ l o (After.got_one_more c v) = record { rows = refl; here = refl; goes = refl }
-after_line p k x _ _ _ l o (After.got_all c v e is) = record { rows = refl; here = refl; goes = refl }
-after_line p k x _ _ _ l o (After.chose_send e is) = record { rows = refl; here = refl; goes = refl }
-after_line p k x _ _ _ l o (After.chose_got e v is) = record { rows = refl; here = refl; goes = refl }
-after_line p k x _ _ _ l o (After.chose_closed e v is) = record { rows = refl; here = refl; goes = refl }
 after_line p k x _ _ _ l o After.looks_again = record { rows = refl; here = l; goes = o }
-after_line p k x _ _ _ l o (After.joined job v) = record { rows = refl; here = refl; goes = refl }
-after_line p k x _ _ _ l o (After.awaited job v) = record { rows = refl; here = refl; goes = refl }
+after_line p k x _ _ _ l o other = record { rows = refl; here = refl; goes = refl }
 
 after_await : (x : Config) (end : End) (y : Config) → AfterAwait x end y → StaysIn x y
 after_await x _ _ (AfterAwait.completed v) = record { rows = refl; here = refl; goes = refl }
@@ -293,9 +266,8 @@ stays_in k x group y h l s = BodyStep.stays h s.rows (s.here ∙ sym l) s.goes
 
 at_end : (k : ℕ) (x : Config) (s : InScope) (group : List Told) (a : Answer) (y : Config) → EndsJust s.row group
     → is_leaving x.stage ≡ false → scope_rows x.entered ≡ s.row ∷ scope_rows s.around → AtScopeEnd k x s a y → BodyStep k x group y
-at_end k x s group _ _ h l e (AtScopeEnd.waits w) = BodyStep.ends_scope s.row (scope_rows s.around) h e l e refl refl
-at_end k x s group _ _ h l e (AtScopeEnd.closed v) = BodyStep.ends_scope s.row (scope_rows s.around) h e l e refl refl
 at_end k x s group _ _ h l e AtScopeEnd.no_place = BodyStep.skips_scope s.row (scope_rows s.around) h e l refl refl refl
+at_end k x s group _ _ h l e other = BodyStep.ends_scope s.row (scope_rows s.around) h e l e refl refl
 
 left_behind : (p : Program) (k : ℕ) (x : Config) (s : InScope) (group : List Told) (end : End) (y : Config) → NoneEnds group
     → is_leaving x.stage ≡ true → scope_rows x.entered ≡ s.row ∷ scope_rows s.around → AfterScope p k x s end y → BodyStep k x group y
@@ -462,7 +434,7 @@ scope_attached : (shape : Shape) (k : ℕ) (told : List Told) (parent row : ℕ)
 scope_attached shape k told parent row h =
     ap (list_any (attaches row)) h.attached ∙ list_any-append (attaches row) h.before
     (Attach parent row (scope_kind h.supervisor) k h.now ∷ h.behind)
-    ∙ or_true (list_any (attaches row) h.before) _ (ap (λ b. b || list_any (attaches row) h.behind) (same row))
+    ∙ or_right (list_any (attaches row) h.before) _ (ap (λ b. b || list_any (attaches row) h.behind) (eq-eqb row row refl))
 
 -- where no body of these scopes ends
 entered_later : (shape : Shape) (k : ℕ) (before group : List Told) (ended : Bool) (rows : List ℕ)
@@ -472,10 +444,10 @@ unfolding AreEntered
 entered_later shape k before group ended [] n h = h
 entered_later shape k before group ended (row ∷ rows) n h = (
   scope_later shape k before group (first_or k rows) row h.0,
-  ends_then row before group ∙ ap (λ b. ends_in row before || b) (n row (ap (λ b. b || is_among row rows) (same row)))
-      ∙ or_nothing (ends_in row before) ∙ h.1,
+  ends_then row before group ∙ ap (λ b. ends_in row before || b) (n row (ap (λ b. b || is_among row rows) (eq-eqb row row refl)))
+      ∙ or-false (ends_in row before) ∙ h.1,
   h.2,
-  entered_later shape k before group false rows (λ r e. n r (or_true (r == row) (is_among r rows) e)) h.3,
+  entered_later shape k before group false rows (λ r e. n r (or_right (r == row) (is_among r rows) e)) h.3,
 )
 
 all_attached : (shape : Shape) (k : ℕ) (told : List Told) (ended : Bool) (rows : List ℕ) (r : ℕ) → AreEntered shape k told ended rows
@@ -535,7 +507,7 @@ entered_now shape k before rows row supervisor now placed h =
         scoped = placed.3.1;
         within = placed.3.2;
       },
-      ends_then row before group ∙ nor _ _ placed.1 refl,
+      ends_then row before group ∙ or_from _ _ placed.1 refl,
       not_among shape k before false rows row h placed.0,
       entered_later shape k before group false rows (λ r e. refl) h,
     )
@@ -550,7 +522,7 @@ entered_ends : (shape : Shape) (k : ℕ) (before group : List Told) (row : ℕ) 
 unfolding AreEntered
 entered_ends shape k before group row around n h = (
   scope_later shape k before group (first_or k around) row h.0,
-  ends_then row before group ∙ or_true (ends_in row before) (ends_in row group) (n row ∙ same row),
+  ends_then row before group ∙ or_right (ends_in row before) (ends_in row group) (n row ∙ eq-eqb row row refl),
   h.2,
   entered_later shape k before group false around (λ r e. n r ∙ apart r row around h.2 e) h.3,
 )
@@ -646,12 +618,12 @@ own_step shape k before x group y (BodyStep.stays n rows same_end over) h = n k 
 own_step shape k before x group y (BodyStep.enters row supervisor now is rows l m over) h = ap (ends_in k) is ∙ sym over
 own_step shape k before x group y (BodyStep.ends_scope row around n rows l after m over) h =
     n k ∙ own_apart shape k before (is_leaving x.stage) (scope_rows x.entered) row h (ap (is_among row) rows
-    ∙ ap (λ b. b || is_among row around) (same row)) ∙ sym over
+    ∙ ap (λ b. b || is_among row around) (eq-eqb row row refl)) ∙ sym over
 own_step shape k before x group y (BodyStep.skips_scope row around n rows l after m over) h =
     n k ∙ own_apart shape k before (is_leaving x.stage) (scope_rows x.entered) row h (ap (is_among row) rows
-    ∙ ap (λ b. b || is_among row around) (same row)) ∙ sym over
+    ∙ ap (λ b. b || is_among row around) (eq-eqb row row refl)) ∙ sym over
 own_step shape k before x group y (BodyStep.leaves row around n rows l after m over) h = n k ∙ sym over
-own_step shape k before x group y (BodyStep.ends n rows l m over) h = n k ∙ same k ∙ sym over
+own_step shape k before x group y (BodyStep.ends n rows l m over) h = n k ∙ eq-eqb k k refl ∙ sym over
 
 -- a coroutine ended its body exactly where it has ended
 pub reach_ends : (p : Program) (k : ℕ) (shape : Shape) (parents : Parents) (told : List Told) (x : Config) → AllKnown parents told

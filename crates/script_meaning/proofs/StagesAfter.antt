@@ -15,17 +15,6 @@ pub after_stage : (test : Stage → Bool) → ((w : WaitId) → test (Waiting w)
     → test y.stage ≡ false
 after_stage test waits unwinds runs sees p k x _ _ _ o (After.waits i w) = waits w
 after_stage test waits unwinds runs sees p k x _ _ _ o (After.no_place i) = unwinds (Some k)
-after_stage test waits unwinds runs sees p k x _ _ _ o (After.sent c v) = runs
-after_stage test waits unwinds runs sees p k x _ _ _ o (After.tried_to_send c v) = runs
-after_stage test waits unwinds runs sees p k x _ _ _ o (After.got c v) = runs
-after_stage test waits unwinds runs sees p k x _ _ _ o (After.no_more c v) = runs
-after_stage test waits unwinds runs sees p k x _ _ _ o (After.tried_and_got c v) = runs
-after_stage test waits unwinds runs sees p k x _ _ _ o (After.tried_to_get c) = runs
-after_stage test waits unwinds runs sees p k x _ _ _ o (After.got_one_more c v) = runs
-after_stage test waits unwinds runs sees p k x _ _ _ o (After.got_all c v e is) = runs
-after_stage test waits unwinds runs sees p k x _ _ _ o (After.chose_send e is) = runs
-after_stage test waits unwinds runs sees p k x _ _ _ o (After.chose_got e v is) = runs
-after_stage test waits unwinds runs sees p k x _ _ _ o (After.chose_closed e v is) = runs
 after_stage test waits unwinds runs sees p k x _ _ _ o After.looks_again = o
-after_stage test waits unwinds runs sees p k x _ _ _ o (After.joined job v) = runs
 after_stage test waits unwinds runs sees p k x _ _ _ o (After.awaited job v) = sees
+after_stage test waits unwinds runs sees p k x _ _ _ o other = runs

@@ -2,7 +2,7 @@
 -- failure; and that each Job that it has a name for is one that it attached.
 use Rattle.std.specs.Prelude.{◌≡◌, ℕ, ◌<◌, ◌⊎◌, Bool, true, false, ◌||◌, List, [], ◌∷◌, ◌++◌, Some, None, slice_get, refl}
 use Rattle.std.proofs.Common.{sym, ap, ◌∙◌, subst, inl, inr, ⊎_elim, append_assoc}
-use Rattle.std.proofs.lemmas.Bool.{eq-eqb}
+use Rattle.std.proofs.lemmas.Bool.{eq-eqb, or_right}
 use Rattle.job_model.specs.declared.acts.Cause.TheVariants as because
 use Rattle.job_model.specs.declared.acts.End.{End}
 use Rattle.job_model.specs.declared.acts.End.TheVariants as ends
@@ -15,7 +15,7 @@ use Rattle.script_grammar.specs.declared.instructions.Instruction.{Instruction}
 use Rattle.script_grammar.specs.Programs.{Program}
 use Rattle.script_grammar.specs.Tags.{spawned}
 use Rattle.script_meaning.specs.declared.stage.Stage.{Stage}
-use Rattle.script_meaning.specs.declared.stage.Stage.TheVariants.{Fresh, Running, Waiting, SeesJob, Unwinding, Leaving, SeesScope, Ended}
+use Rattle.script_meaning.specs.declared.stage.Stage.TheVariants.{Fresh, Running, Waiting, Unwinding}
 use Rattle.script_meaning.specs.Configs.{Config, InScope, fresh, past_launch, innermost}
 use Rattle.script_meaning.specs.Lines.{After, AfterAwait, AtScopeEnd, AfterScope, is_lazy}
 use Rattle.script_meaning.specs.Moves.{Move}
@@ -62,90 +62,41 @@ reach_begun p k _ _ (Reaches.goes_on before group all x y r m e) f =
 
 goes_on_by : (p : Program) (k : ℕ) (x : Config) (i : Instruction) (a : Answer) (y : Config) (group : List Told) → x.stage ≡ Running
     → After p k x i a y → UnwindsBy k group y.stage
-goes_on_by p k x _ _ _ group s (After.waits i w) = tt
 goes_on_by p k x _ _ _ group s (After.no_place i) = FailedBy.own refl
-goes_on_by p k x _ _ _ group s (After.sent c o) = tt
-goes_on_by p k x _ _ _ group s (After.tried_to_send c o) = tt
-goes_on_by p k x _ _ _ group s (After.got c v) = tt
-goes_on_by p k x _ _ _ group s (After.no_more c v) = tt
-goes_on_by p k x _ _ _ group s (After.tried_and_got c v) = tt
-goes_on_by p k x _ _ _ group s (After.tried_to_get c) = tt
-goes_on_by p k x _ _ _ group s (After.got_one_more c v) = tt
-goes_on_by p k x _ _ _ group s (After.got_all c v e is) = tt
-goes_on_by p k x _ _ _ group s (After.chose_send e is) = tt
-goes_on_by p k x _ _ _ group s (After.chose_got e v is) = tt
-goes_on_by p k x _ _ _ group s (After.chose_closed e v is) = tt
 goes_on_by p k x _ _ _ group s After.looks_again = subst (UnwindsBy k group) (sym s) tt
-goes_on_by p k x _ _ _ group s (After.joined job v) = tt
-goes_on_by p k x _ _ _ group s (After.awaited job v) = tt
+goes_on_by p k x _ _ _ group s other = tt
 
 resumes_by : (p : Program) (k : ℕ) (x : Config) (w : _) (i : Instruction) (a : Answer) (y : Config) (group : List Told)
     → x.stage ≡ Waiting w → After p k x i a y → UnwindsBy k group y.stage
-resumes_by p k x w _ _ _ group s (After.waits i v) = tt
 resumes_by p k x w _ _ _ group s (After.no_place i) = FailedBy.own refl
-resumes_by p k x w _ _ _ group s (After.sent c o) = tt
-resumes_by p k x w _ _ _ group s (After.tried_to_send c o) = tt
-resumes_by p k x w _ _ _ group s (After.got c v) = tt
-resumes_by p k x w _ _ _ group s (After.no_more c v) = tt
-resumes_by p k x w _ _ _ group s (After.tried_and_got c v) = tt
-resumes_by p k x w _ _ _ group s (After.tried_to_get c) = tt
-resumes_by p k x w _ _ _ group s (After.got_one_more c v) = tt
-resumes_by p k x w _ _ _ group s (After.got_all c v e is) = tt
-resumes_by p k x w _ _ _ group s (After.chose_send e is) = tt
-resumes_by p k x w _ _ _ group s (After.chose_got e v is) = tt
-resumes_by p k x w _ _ _ group s (After.chose_closed e v is) = tt
 resumes_by p k x w _ _ _ group s After.looks_again = subst (UnwindsBy k group) (sym s) tt
-resumes_by p k x w _ _ _ group s (After.joined job v) = tt
-resumes_by p k x w _ _ _ group s (After.awaited job v) = tt
+resumes_by p k x w _ _ _ group s other = tt
 
 await_by : (k : ℕ) (x : Config) (row : ℕ) (end : End) (y : Config) → AfterAwait x end y → UnwindsBy k (saw_end row end ∷ []) y.stage
-await_by k x row _ _ (AfterAwait.completed v) = tt
-await_by k x row _ _ AfterAwait.cancelled = tt
 await_by k x row _ _ (AfterAwait.failed f) = FailedBy.seen row [] [] refl
+await_by k x row _ _ other = tt
 
 scope_end_by : (k : ℕ) (x : Config) (s : InScope) (a : Answer) (y : Config) (group : List Told) → AtScopeEnd k x s a y
     → UnwindsBy k group y.stage
-scope_end_by k x s _ _ group (AtScopeEnd.waits w) = tt
-scope_end_by k x s _ _ group (AtScopeEnd.closed v) = tt
 scope_end_by k x s _ _ group AtScopeEnd.no_place = FailedBy.own refl
+scope_end_by k x s _ _ group other = tt
 
 scope_by : (p : Program) (k : ℕ) (x : Config) (s : InScope) (end : End) (y : Config) → AfterScope p k x s end y
     → UnwindsBy k (saw_end s.row end ∷ []) y.stage
-scope_by p k x s _ _ (AfterScope.completed v e is) = tt
-scope_by p k x s _ _ AfterScope.cancelled = tt
 scope_by p k x s _ _ (AfterScope.failed f) = FailedBy.seen s.row [] [] refl
+scope_by p k x s _ _ other = tt
 
 move_by : (p : Program) (k : ℕ) (x : Config) (group : List Told) (y : Config) → Move p k x group y → UnwindsBy k group y.stage
-move_by p k _ _ _ (Move.runs x s) = tt
-move_by p k _ _ _ (Move.never_runs x s) = tt
 move_by p k _ _ _ (Move.calls x y i g a at h f) = goes_on_by p k x i a y g at.stage f
 move_by p k _ _ _ (Move.resumes x y w i outcome a s l r f) = resumes_by p k x w i a y _ s f
-move_by p k _ _ _ (Move.cancelled x w s) = tt
-move_by p k _ _ _ (Move.gives_up x w g s h) = tt
 move_by p k _ _ _ (Move.sees_job x y job row end s l n f) = await_by k x row end y f
-move_by p k _ _ _ (Move.closes x c g at h) = tt
-move_by p k _ _ _ (Move.cancels_channel x c g at h) = tt
-move_by p k _ _ _ (Move.yields x at) = tt
-move_by p k _ _ _ (Move.stops_at_yield x at) = tt
-move_by p k _ _ _ (Move.stops_at_join x job at) = tt
-move_by p k _ _ _ (Move.launches x block how job now at) = tt
 move_by p k _ _ _ (Move.launch_refused x block how job g at h) = FailedBy.own refl
-move_by p k _ _ _ (Move.enters x supervisor row now at) = tt
 move_by p k _ _ _ (Move.enter_refused x supervisor g at h) = FailedBy.own refl
-move_by p k _ _ _ (Move.starts x job row g at n h) = tt
-move_by p k _ _ _ (Move.cancels x job row newly g at n h) = tt
 move_by p k _ _ _ (Move.fails x v at) = FailedBy.own refl
-move_by p k _ _ _ (Move.results x o at) = tt
-move_by p k _ _ _ (Move.repeats x n at) = tt
-move_by p k _ _ _ (Move.turns_again x head n es at e) = tt
-move_by p k _ _ _ (Move.turns_no_more x head es at e) = tt
-move_by p k _ _ _ (Move.receives_again x head es at e) = tt
 move_by p k _ _ _ (Move.ends_scope x y s end g all a at e h c f q) = scope_end_by k x s a y all f
-move_by p k _ _ _ (Move.scope_ended x w n v s) = tt
 move_by p k _ _ _ (Move.sees_scope x y s end l e f) = scope_by p k x s end y f
 move_by p k _ _ _ (Move.breaks_scope x y s failure break g all a l e h c f q) = scope_end_by k x s a y all f
-move_by p k _ _ _ (Move.breaks x failure g s e h) = tt
-move_by p k _ _ _ (Move.ends x g s e h) = tt
+move_by p k _ _ _ other = tt
 
 spawns_by : (p : Program) (blocks : List ℕ) (x : Config) (group : List Told) (y : Config) → UnwindsBy 0 [] x.stage → (x.stage ≡ Fresh)
     → Spawns p blocks x group y → (told : List Told) → UnwindsBy 0 told y.stage
@@ -165,15 +116,9 @@ failed_later k before group all f e (FailedBy.seen row xs ys h) =
     ∙ sym (append_assoc before xs (saw_end row (ends.Cancelled (because.Failure f)) ∷ ys)))
 
 unwinds_later : (k : ℕ) (before group all : List Told) (s : Stage) → all ≡ before ++ group → UnwindsBy k group s → UnwindsBy k all s
-unwinds_later k before group all Fresh e h = tt
-unwinds_later k before group all Running e h = tt
-unwinds_later k before group all (Waiting w) e h = tt
-unwinds_later k before group all SeesJob e h = tt
 unwinds_later k before group all (Unwinding None) e h = tt
 unwinds_later k before group all (Unwinding (Some f)) e h = failed_later k before group all f e h
-unwinds_later k before group all (Leaving w) e h = tt
-unwinds_later k before group all SeesScope e h = tt
-unwinds_later k before group all Ended e h = tt
+unwinds_later k before group all other e h = tt
 
 -- the failure by which it unwinds is its own, or that of a Job that it saw ended by it
 pub reach_fails : (p : Program) (k : ℕ) (told : List Told) (x : Config) → Reaches p k told x → UnwindsBy k told x.stage
@@ -198,18 +143,9 @@ old k i r x y group e h = inl (subst (λ rows. slice_get rows i ≡ Some r) e h)
 
 move_rows : (p : Program) (k i r : ℕ) (x : Config) (group : List Told) (y : Config) → Move p k x group y → slice_get y.rows i ≡ Some r
     → OldOrNew k i r x group
-move_rows p k i r _ _ _ (Move.runs x s) z = inl z
-move_rows p k i r _ _ _ (Move.never_runs x s) z = inl z
 move_rows p k i r _ _ _ (Move.calls x y l g a at h f) z = old k i r x y g (call_names p k x l a y f).0 z
 move_rows p k i r _ _ _ (Move.resumes x y w l outcome a s at m f) z = old k i r x y _ (call_names p k x l a y f).0 z
-move_rows p k i r _ _ _ (Move.cancelled x w s) z = inl z
-move_rows p k i r _ _ _ (Move.gives_up x w g s h) z = inl z
 move_rows p k i r _ _ _ (Move.sees_job x y job row end s l n f) z = old k i r x y _ (await_names x end y f).0 z
-move_rows p k i r _ _ _ (Move.closes x c g at h) z = inl z
-move_rows p k i r _ _ _ (Move.cancels_channel x c g at h) z = inl z
-move_rows p k i r _ _ _ (Move.yields x at) z = inl z
-move_rows p k i r _ _ _ (Move.stops_at_yield x at) z = inl z
-move_rows p k i r _ _ _ (Move.stops_at_join x job at) z = inl z
 move_rows p k i r _ _ _ (Move.launches x block how job now at) z =
     ⊎_elim
     (λ (e : r ≡ x.free). inr (record {
@@ -221,36 +157,18 @@ move_rows p k i r _ _ _ (Move.launches x block how job now at) z =
     }))
     (λ (e : slice_get x.rows i ≡ Some r). inl e)
     (named_or_old job x.free x.rows i r z)
-move_rows p k i r _ _ _ (Move.launch_refused x block how job g at h) z = inl z
-move_rows p k i r _ _ _ (Move.enters x supervisor row now at) z = inl z
-move_rows p k i r _ _ _ (Move.enter_refused x supervisor g at h) z = inl z
-move_rows p k i r _ _ _ (Move.starts x job row g at n h) z = inl z
-move_rows p k i r _ _ _ (Move.cancels x job row newly g at n h) z = inl z
-move_rows p k i r _ _ _ (Move.fails x v at) z = inl z
-move_rows p k i r _ _ _ (Move.results x o at) z = inl z
-move_rows p k i r _ _ _ (Move.repeats x n at) z = inl z
-move_rows p k i r _ _ _ (Move.turns_again x head n es at e) z = inl z
-move_rows p k i r _ _ _ (Move.turns_no_more x head es at e) z = inl z
-move_rows p k i r _ _ _ (Move.receives_again x head es at e) z = inl z
 move_rows p k i r _ _ _ (Move.ends_scope x y s end g all a at e h c f q) z = old k i r x y all (scope_end_names k x s a y f).0 z
-move_rows p k i r _ _ _ (Move.scope_ended x w n v s) z = inl z
 move_rows p k i r _ _ _ (Move.sees_scope x y s end l e f) z = old k i r x y _ (past_scope_names p k x s end y f).0 z
 move_rows p k i r _ _ _ (Move.breaks_scope x y s failure break g all a l e h c f q) z = old k i r x y all (scope_end_names k x s a y f).0 z
-move_rows p k i r _ _ _ (Move.breaks x failure g s e h) z = inl z
-move_rows p k i r _ _ _ (Move.ends x g s e h) z = inl z
+move_rows p k i r _ _ _ other z = inl z
 
 spawns_rows : (p : Program) (blocks : List ℕ) (x : Config) (group : List Told) (y : Config) → Spawns p blocks x group y → y.rows ≡ x.rows
-spawns_rows p _ _ _ _ (Spawns.done x) = refl
 spawns_rows p _ _ _ _ (Spawns.attaches block blocks x y now more rest) = spawns_rows p blocks (past_launch p block None x) more y rest
-spawns_rows p _ _ _ _ (Spawns.refused block blocks x group g) = refl
+spawns_rows p _ _ _ _ other = refl
 
 begins_rows : (p : Program) (k : ℕ) (group : List Told) (x : Config) → Begins p k group x → x.rows ≡ []
 begins_rows p _ _ _ (Begins.root group x s) = spawns_rows p (spawned p) (fresh 0) group x s
 begins_rows p _ _ _ (Begins.child k n) = refl
-
-or_true : (a b : Bool) → b ≡ true → (a || b) ≡ true
-or_true true b e = refl
-or_true false b e = e
 
 launched_now : (k r : ℕ) (group : List Told) → AttachesForName k r group → attaches_in r group ≡ true
 unfolding items_in
@@ -265,7 +183,7 @@ reach_rows p k _ _ i r (Reaches.goes_on before group all x y q m e) h =
     ap (attaches_in r) e ∙ attaches_then r before group
     ∙ ⊎_elim
     (λ (f : slice_get x.rows i ≡ Some r). ap (λ b. b || attaches_in r group) (reach_rows p k before x i r q f))
-    (λ (f : AttachesForName k r group). or_true (attaches_in r before) (attaches_in r group) (launched_now k r group f))
+    (λ (f : AttachesForName k r group). or_right (attaches_in r before) (attaches_in r group) (launched_now k r group f))
     (move_rows p k i r x group y m h)
 
 launched_low : (shape : Shape) (k r : ℕ) (before group : List Told) → AttachesForName k r group

@@ -3,11 +3,11 @@
 use Rattle.std.specs.Prelude.{◌≡◌, ℕ, zero, suc, ◌+◌, ◌<◌, ◌≤◌, ◌==◌, nat_lt, ◌⊎◌, Bool, true, false, ◌||◌, ◌&&◌, not, List, [], ◌∷◌, ◌++◌, length, take, drop, Option, Some, slice_get, if◌then◌else◌, refl}
 use Rattle.std.specs.List.{list_any}
 use Rattle.std.proofs.Common.{sym, ap, ◌∙◌, subst, inl, inr, ⊎_elim, arith}
-use Rattle.std.proofs.lemmas.Bool.{eqb-true, or_parts}
+use Rattle.std.proofs.lemmas.Bool.{eqb-true, or_parts, false≢true}
 use Rattle.std.proofs.lemmas.List.Folds.{list_any-append}
 use Rattle.job_model.specs.declared.acts.End.{End}
 use Rattle.job_model.specs.declared.acts.JobAct.{JobAct}
-use Rattle.job_model.specs.declared.acts.JobAct.TheVariants.{Attach, Start, EndBody, Cancel, Finish, Gone}
+use Rattle.job_model.specs.declared.acts.JobAct.TheVariants.{Attach, Start, Cancel}
 use Rattle.job_model.specs.declared.acts.JobKind.{JobKind}
 use Rattle.job_model.specs.declared.acts.JobNote.TheVariants as known
 use Rattle.note_book.specs.declared.book.Item.{Item}
@@ -97,35 +97,10 @@ none_first n e = omega (arith, e)
 
 act_nothing : (act : JobAct) (items : List Item) → is_attach act ≡ false → Nothing items → Nothing (item.Job (known.Made act) ∷ items)
 act_nothing (Attach p q kind tag cancelled) items e h = cc
-act_nothing (Start q) items e h = record {
+act_nothing other items e h = record {
   launched = h.launched;
   scopes = none_first (scopes_of_acts (job_acts_in items)) h.scopes;
   no_row = h.no_row;
-  used = h.used;
-}
-act_nothing (EndBody q v) items e h = record {
-  launched = h.launched;
-  scopes = none_first (scopes_of_acts (job_acts_in items)) h.scopes;
-  no_row = h.no_row;
-  used = h.used;
-}
-act_nothing (Cancel q reason) items e h = record {
-  launched = h.launched;
-  scopes = none_first (scopes_of_acts (job_acts_in items)) h.scopes;
-  no_row = h.no_row;
-  used = h.used;
-}
-act_nothing (Finish q end) items e h = record {
-  launched = h.launched;
-  scopes = none_first (scopes_of_acts (job_acts_in items)) h.scopes;
-  no_row = h.no_row;
-  used = h.used;
-}
-act_nothing (Gone q) items e h = record {
-  launched = h.launched;
-  scopes = none_first (scopes_of_acts (job_acts_in items)) h.scopes;
-  no_row =
-      h.no_row;
   used = h.used;
 }
 
@@ -234,9 +209,6 @@ pub record MoveGives (p : Program) (k : ℕ) (done : ℕ → Bool) (x : Config) 
   pub used : list_any is_used (items_in group) ≡ true → LaunchesAt p k x.free × (y.free ≡ x.free)
   pub no_row : list_any is_no_row (items_in group) ≡ true → (1 ≤ scopes) × (scopes_told group ≡ 0) × (y.free ≡ x.free)
 
-pub never : {A : Type 0} → false ≡ true → A
-never e = absurd (let no_way : ⊥ = cc in no_way)
-
 -- a move that attaches nothing and is refused nothing
 quiet_move : (p : Program) (k : ℕ) (done : ℕ → Bool) (x : Config) (group : List Told) (y : Config) (h : Gives p k done x)
     → attach_in group ≡ false → y.free ≡ x.free → LinesLeave p k done y.stage y.line y.entered (drop h.passed (launches_of p k)) h.scopes
@@ -247,17 +219,16 @@ quiet_move p k done x group y h quiet same left =
     record {
       gives = record { passed = h.passed; next_tag = same ∙ h.next_tag; scopes = h.scopes; left = left };
       grows = omega (arith, same);
-      launched = λ r e. never (sym (n.launched r) ∙ e);
+      launched = λ r e. absurd (false≢true (sym (n.launched r) ∙ e));
       entered = omega (arith, none);
-      used = λ e. never (sym n.used ∙ e);
-      no_row = λ e. never (sym n.no_row ∙ e);
+      used = λ e. absurd (false≢true (sym n.used ∙ e));
+      no_row = λ e. absurd (false≢true (sym n.no_row ∙ e));
     }
 
 -- where a call goes on
 call_leaves : (p : Program) (k : ℕ) (done : ℕ → Bool) (x : Config) (i : Instruction) (a : Answer) (y : Config) (h : Gives p k done x)
     → AtLine p k x.line x.entered h.passed h.scopes → slice_get (code_of p k) x.line ≡ Some i → After p k x i a y
     → LinesLeave p k done y.stage y.line y.entered (drop h.passed (launches_of p k)) h.scopes
-call_leaves p k done x _ _ _ h left at (After.waits i w) = left
 call_leaves p k done x _ _ _ h left at (After.no_place i) = tt
 call_leaves p k done x _ _ _ h left at (After.sent c o) = idle_next p k done x (line.Send c o) h left at refl refl refl
 call_leaves p k done x _ _ _ h left at (After.tried_to_send c o) = idle_next p k done x (line.TrySend c o) h left at refl refl refl
@@ -279,7 +250,7 @@ call_leaves p k done x _ _ _ h left at (After.chose_closed e v f) =
     past_select (code_of p k) x.entered x.line e (drop h.passed (launches_of p k)) h.scopes f (first_there p k done x line.Select h left at)
 call_leaves p k done x _ _ _ h left at After.looks_again = h.left
 call_leaves p k done x _ _ _ h left at (After.joined job v) = idle_next p k done x (line.Join job) h left at refl refl refl
-call_leaves p k done x _ _ _ h left at (After.awaited job v) = left
+call_leaves p k done x _ _ _ h left at other = left
 
 -- at the end of a scope, and behind it
 same_scope : (entered : List Entered) (s t : InScope) → scope_in entered ≡ Some s → scope_in entered ≡ Some t → s ≡ t
@@ -310,23 +281,21 @@ broken_leaves p k done entered s blocks scopes e d t is = inl (subst (λ (u : In
 
 at_end_leaves : (p : Program) (k : ℕ) (done : ℕ → Bool) (x : Config) (s : InScope) (a : Answer) (y : Config) (blocks : List ℕ) (scopes : ℕ)
     → ScopeLeaves p k done x.entered blocks scopes → AtScopeEnd k x s a y → LinesLeave p k done y.stage y.line y.entered blocks scopes
-at_end_leaves p k done x s _ _ blocks scopes h (AtScopeEnd.waits w) = h
-at_end_leaves p k done x s _ _ blocks scopes h (AtScopeEnd.closed v) = h
 at_end_leaves p k done x s _ _ blocks scopes h AtScopeEnd.no_place = tt
+at_end_leaves p k done x s _ _ blocks scopes h other = h
 
 past_scope : (p : Program) (k : ℕ) (done : ℕ → Bool) (x : Config) (s : InScope) (end : End) (y : Config) (blocks : List ℕ) (scopes : ℕ)
     → scope_in x.entered ≡ Some s → SeenAs done s.row end → ScopeLeaves p k done x.entered blocks scopes → AfterScope p k x s end y
     → LinesLeave p k done y.stage y.line y.entered blocks scopes
-past_scope p k done x s _ _ blocks scopes is seen h (AfterScope.completed v e c) = ⊎_elim (λ f. never (sym f ∙ seen)) (λ f. f e c) (h s is)
-past_scope p k done x s _ _ blocks scopes is seen h AfterScope.cancelled = tt
-past_scope p k done x s _ _ blocks scopes is seen h (AfterScope.failed f) = tt
+past_scope p k done x s _ _ blocks scopes is seen h (AfterScope.completed v e c) =
+    ⊎_elim (λ f. absurd (false≢true (sym f ∙ seen))) (λ f. f e c) (h s is)
+past_scope p k done x s _ _ blocks scopes is seen h other = tt
 
 await_leaves : (p : Program) (k : ℕ) (done : ℕ → Bool) (x : Config) (job : ℕ) (end : End) (y : Config) (h : Gives p k done x)
     → AtLine p k x.line x.entered h.passed h.scopes → slice_get (code_of p k) x.line ≡ Some (line.Await job) → AfterAwait x end y
     → LinesLeave p k done y.stage y.line y.entered (drop h.passed (launches_of p k)) h.scopes
 await_leaves p k done x job _ _ h left at (AfterAwait.completed v) = idle_next p k done x (line.Await job) h left at refl refl refl
-await_leaves p k done x job _ _ h left at AfterAwait.cancelled = tt
-await_leaves p k done x job _ _ h left at (AfterAwait.failed f) = tt
+await_leaves p k done x job _ _ h left at other = tt
 
 -- a launch that is made, at a line or by a spawn
 pub launch_of_row : (p : Program) (k parent free size r : ℕ) (lazy now : Bool) → LaunchesAt p k free → 1 ≤ size
@@ -376,8 +345,20 @@ pub record Refusal (scoped : Bool) (group : List Told) : Type 0 where
 
 pub refusal_of : (parent : ℕ) (scoped : Bool) (group : List Told) → NotAttached parent scoped group → Refusal scoped group
 unfolding items_in
-refusal_of parent _ _ NotAttached.no_row = record { launched = λ r. refl; scopes = refl; used = λ e. refl; no_row = λ e. never (sym e) }
-refusal_of parent _ _ NotAttached.used = record { launched = λ r. refl; scopes = refl; used = λ e. never e; no_row = λ e. refl }
+refusal_of parent _ _ NotAttached.no_row = record {
+  launched = λ r. refl;
+  scopes = refl;
+  used = λ e. refl;
+  no_row =
+      λ e. absurd (false≢true (sym e));
+}
+refusal_of parent _ _ NotAttached.used = record {
+  launched = λ r. refl;
+  scopes = refl;
+  used = λ e. absurd (false≢true e);
+  no_row =
+      λ e. refl;
+}
 refusal_of parent _ _ (NotAttached.parent_ended scoped) =
     record { launched = λ r. refl; scopes = refl; used = λ e. refl; no_row = λ e. refl }
 
@@ -438,8 +419,8 @@ move_gives p k parents done _ _ _ ok a e h (Move.launches x block how job now at
       grows = omega arith;
       launched = λ r f. launch_of_row p k parent x.free (size_of p block) r (is_lazy how) now given some f;
       entered = omega (arith, none);
-      used = λ f. never (sym (not_used parent x.free x.free (child_kind (is_lazy how)) now) ∙ f);
-      no_row = λ f. never (sym (not_no_row parent x.free x.free (child_kind (is_lazy how)) now) ∙ f);
+      used = λ f. absurd (false≢true (sym (not_used parent x.free x.free (child_kind (is_lazy how)) now) ∙ f));
+      no_row = λ f. absurd (false≢true (sym (not_no_row parent x.free x.free (child_kind (is_lazy how)) now) ∙ f));
     }
 move_gives p k parents done _ _ _ ok a e h (Move.launch_refused x block how job group at g) =
     let l = launch_there p k done x block how job h at in
@@ -448,10 +429,10 @@ move_gives p k parents done _ _ _ ok a e h (Move.launch_refused x block how job 
     record {
       gives = record { passed = h.passed; next_tag = h.next_tag; scopes = h.scopes; left = tt };
       grows = omega arith;
-      launched = λ q f. never (sym (r.launched q) ∙ f);
+      launched = λ q f. absurd (false≢true (sym (r.launched q) ∙ f));
       entered = omega (arith, none);
       used = λ f. (next_is_given p k h.passed x.free block l.blocks h.next_tag l.first, refl);
-      no_row = λ f. never (sym (r.no_row refl) ∙ f);
+      no_row = λ f. absurd (false≢true (sym (r.no_row refl) ∙ f));
     }
 move_gives p k parents done _ _ _ ok a e h (Move.enters x supervisor row now at) =
     let s = enter_scope (code_of p k) x.entered x.line row supervisor (drop h.passed (launches_of p k)) h.scopes
@@ -461,10 +442,10 @@ move_gives p k parents done _ _ _ ok a e h (Move.enters x supervisor row now at)
     record {
       gives = record { passed = h.passed; next_tag = h.next_tag; scopes = s.0; left = s.2 };
       grows = omega arith;
-      launched = λ q f. never (sym (scope_launches_none q (innermost k x) row k supervisor now) ∙ f);
+      launched = λ q f. absurd (false≢true (sym (scope_launches_none q (innermost k x) row k supervisor now) ∙ f));
       entered = omega (arith, one, fewer);
-      used = λ f. never (sym (not_used (innermost k x) row k (scope_kind supervisor) now) ∙ f);
-      no_row = λ f. never (sym (not_no_row (innermost k x) row k (scope_kind supervisor) now) ∙ f);
+      used = λ f. absurd (false≢true (sym (not_used (innermost k x) row k (scope_kind supervisor) now) ∙ f));
+      no_row = λ f. absurd (false≢true (sym (not_no_row (innermost k x) row k (scope_kind supervisor) now) ∙ f));
     }
 move_gives p k parents done _ _ _ ok a e h (Move.enter_refused x supervisor group at g) =
     let s = enter_scope (code_of p k) x.entered x.line 0 supervisor (drop h.passed (launches_of p k)) h.scopes
@@ -475,9 +456,9 @@ move_gives p k parents done _ _ _ ok a e h (Move.enter_refused x supervisor grou
     record {
       gives = record { passed = h.passed; next_tag = h.next_tag; scopes = h.scopes; left = tt };
       grows = omega arith;
-      launched = λ q f. never (sym (r.launched q) ∙ f);
+      launched = λ q f. absurd (false≢true (sym (r.launched q) ∙ f));
       entered = omega (arith, none);
-      used = λ f. never (sym (r.used refl) ∙ f);
+      used = λ f. absurd (false≢true (sym (r.used refl) ∙ f));
       no_row = λ f. (omega (arith, fewer), none, refl);
     }
 move_gives p k parents done _ _ _ ok a e h (Move.starts x job row group at n g) =

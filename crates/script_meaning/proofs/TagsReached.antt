@@ -2,6 +2,7 @@
 use Rattle.std.specs.Prelude.{◌≡◌, ◌≢◌, ℕ, zero, suc, ◌+◌, ◌<◌, ◌≤◌, ◌==◌, ◌⊎◌, Bool, true, false, ◌||◌, ◌&&◌, List, [], ◌∷◌, ◌++◌, take, drop, Option, None, refl}
 use Rattle.std.specs.List.{list_any}
 use Rattle.std.proofs.Common.{sym, ap, ◌∙◌, subst, inl, inr, ⊎_elim, arith}
+use Rattle.std.proofs.lemmas.Bool.{false≢true, or_cases}
 use Rattle.job_model.specs.declared.acts.JobAct.TheVariants.{Attach}
 use Rattle.job_model.specs.Histories.{Legal}
 use Rattle.note_book.specs.declared.book.Item.{Item}
@@ -14,7 +15,7 @@ use Rattle.script_grammar.specs.Programs.{Program}
 use Rattle.script_grammar.specs.WellFormed.{IsProgram}
 use Rattle.script_grammar.specs.Tags.{code_of, coroutine_count, spawned, launched, launches_of, LaunchesAt, size_of, sizes_of, scopes_from}
 use Rattle.script_grammar.proofs.Layouts.{main_fits, launches_fit}
-use Rattle.script_grammar.proofs.LaunchedTags.{launches_known, launches_of-other, take_less}
+use Rattle.script_grammar.proofs.LaunchedTags.{launches_known, launches_of-other, take_less, sizes_take-all}
 use Rattle.script_grammar.proofs.ProgramsBalanced.{program-balances}
 use Rattle.script_meaning.specs.declared.stage.Stage.{Stage}
 use Rattle.script_meaning.specs.declared.stage.Stage.TheVariants.{Fresh, Running}
@@ -29,7 +30,7 @@ use Rattle.script_meaning.proofs.LinesLeft.{Left}
 use Rattle.script_meaning.proofs.AttachesTold.{attach_in, neither, gives_up_none, breaks_off_none, plain_none}
 use Rattle.script_meaning.proofs.CompletedJobs.{EndsSo, completed_in, ends_left, ends_right, ends_so}
 use Rattle.script_meaning.proofs.NamedRows.{call_names, await_names, scope_end_names, past_scope_names}
-use Rattle.script_meaning.proofs.TagsGiven.{launched_in, scopes_told, scopes_then, launched_then, noted_then, nothing_in, LinesLeave, Gives, MoveGives, move_gives, never, first_left, next_is_given, then_is_given, takes_a_tag, launch_of_row, refusal_of, launch_there}
+use Rattle.script_meaning.proofs.TagsGiven.{launched_in, scopes_told, scopes_then, launched_then, noted_then, nothing_in, LinesLeave, Gives, MoveGives, move_gives, first_left, next_is_given, then_is_given, takes_a_tag, launch_of_row, refusal_of, launch_there}
 
 -- ---- the beginning
 
@@ -51,10 +52,9 @@ pub record BeginGives (p : Program) (k : ℕ) (done : ℕ → Bool) (group : Lis
   pub no_row : list_any is_no_row (items_in group) ≡ false
 
 spawned_free : (p : Program) (blocks : List ℕ) (x : Config) (group : List Told) (y : Config) → Spawns p blocks x group y → x.free ≤ y.free
-spawned_free p _ _ _ _ (Spawns.done x) = omega arith
 spawned_free p _ _ _ _ (Spawns.attaches block blocks x y now more rest) = let le =
     spawned_free p blocks (past_launch p block None x) more y rest in omega (arith, le)
-spawned_free p _ _ _ _ (Spawns.refused block blocks x group g) = omega arith
+spawned_free p _ _ _ _ other = omega arith
 
 launched_behind : (r free : ℕ) (now : Bool) (more : List Told)
     → launched_in r (did (Attach 0 free (child_kind false) free now) ∷ more) ≡ true
@@ -138,7 +138,7 @@ spawns_give p done ok _ _ _ _ h (Spawns.refused block blocks x group g) =
     let none = r.scopes in
     record {
       gives = record { passed = h.passed; next_tag = h.next_tag; scopes = scopes_from [] (code_of p 0); left = tt };
-      launched = λ q e. never (sym (r.launched q) ∙ e);
+      launched = λ q e. absurd (false≢true (sym (r.launched q) ∙ e));
       entered = omega (arith, none);
       used = λ e. next_is_given p 0 h.passed x.free block (blocks ++ launched (code_of p 0)) h.next_tag h.left;
       no_row = r.no_row refl;
@@ -172,10 +172,6 @@ pub record ReachGives (p : Program) (k : ℕ) (done : ℕ → Bool) (told : List
   -- the scopes that it entered and those that are left are no more than its lines enter
   pub entered : scopes_told told + gives.scopes ≤ scopes_from [] (code_of p k)
 
-either : (a b : Bool) → (a || b) ≡ true → (a ≡ true) ⊎ (b ≡ true)
-either true b f = inl refl
-either false b f = inr f
-
 pub reach_gives : (p : Program) (k : ℕ) (parents : Parents) (done : ℕ → Bool) (told : List Told) (x : Config) → IsProgram p
     → AllKnown parents told → EndsSo done told → Reaches p k told x → ReachGives p k done told x
 reach_gives p k parents done _ _ ok a e (Reaches.begins group x b) = let r = begins_give p k done group x ok b
@@ -194,7 +190,7 @@ reach_gives p k parents done _ _ ok a e (Reaches.goes_on before group all x y r 
       launched = λ q f. ⊎_elim
           (λ g. let was = first.launched q g in let le = more.grows in (was.0, omega (arith, was.1, le)))
           (λ g. more.launched q g)
-          (either (launched_in q before) (launched_in q group) (sym (ap (launched_in q) is ∙ launched_then q before group) ∙ f));
+          (or_cases (launched_in q before) (launched_in q group) (sym (ap (launched_in q) is ∙ launched_then q before group) ∙ f));
       entered = omega (arith, all_scopes, few, fewer);
     }
 
@@ -224,11 +220,6 @@ all_fit p (suc k) ok lt =
     let fits = launches_fit p (suc k) ok other lt in
     omega (arith, same, fits)
 
-sizes_take : (p : Program) (js : List ℕ) (n : ℕ) → sizes_of p (take n js) ≤ sizes_of p js
-sizes_take p js zero = omega arith
-sizes_take p [] (suc n) = omega arith
-sizes_take p (j ∷ js) (suc n) = let rest = sizes_take p js n in omega (arith, rest)
-
 -- what it launches is a coroutine of the script
 pub launched_in_run : (p : Program) (k r : ℕ) → IsProgram p → k < coroutine_count p → LaunchesAt p k r → r < coroutine_count p
 launched_in_run p k r ok lt h =
@@ -243,7 +234,7 @@ pub launch_fits : (p : Program) (k : ℕ) (done : ℕ → Bool) (x : Config) (bl
 launch_fits p k done x block how job ok lt h at =
     let l = launch_there p k done x block how job h at in
     let next = then_is_given p k h.passed x.free block l.blocks h.next_tag l.first in
-    let few = sizes_take p (launches_of p k) (suc h.passed) in
+    let few = sizes_take-all p (launches_of p k) (suc h.passed) in
     let fits = all_fit p k ok lt in
     omega (arith, next, few, fits)
 
@@ -259,11 +250,8 @@ launch_room p k now book x block how job ok lt legal h at =
 quiet_unless_running : (p : Program) (k : ℕ) (parents : Parents) (x : Config) (group : List Told) (y : Config) → AllKnown parents group
     → Move p k x group y → (x.stage ≡ Running) ⊎ ((attach_in group ≡ false) × (y.free ≡ x.free))
 unfolding items_in
-quiet_unless_running p k parents _ _ _ a (Move.runs x s) = inr (refl, refl)
-quiet_unless_running p k parents _ _ _ a (Move.never_runs x s) = inr (refl, refl)
 quiet_unless_running p k parents _ _ _ a (Move.calls x y i group b at c f) = inl at.stage
 quiet_unless_running p k parents _ _ _ a (Move.resumes x y w i outcome b s at m f) = inr (refl, (call_names p k x i b y f).1)
-quiet_unless_running p k parents _ _ _ a (Move.cancelled x w s) = inr (refl, refl)
 quiet_unless_running p k parents _ _ _ a (Move.gives_up x w group s g) = inr (gives_up_none w group g, refl)
 quiet_unless_running p k parents _ _ _ a (Move.sees_job x y job row end s at n f) = inr (refl, (await_names x end y f).1)
 quiet_unless_running p k parents _ _ _ a (Move.closes x c group at g) = inl at.stage
@@ -284,7 +272,6 @@ quiet_unless_running p k parents _ _ _ a (Move.turns_again x head n es at is) = 
 quiet_unless_running p k parents _ _ _ a (Move.turns_no_more x head es at is) = inl at.stage
 quiet_unless_running p k parents _ _ _ a (Move.receives_again x head es at is) = inl at.stage
 quiet_unless_running p k parents _ _ _ a (Move.ends_scope x y s end group all b at is g c f parts) = inl at.stage
-quiet_unless_running p k parents _ _ _ a (Move.scope_ended x w n v s) = inr (refl, refl)
 quiet_unless_running p k parents _ _ _ a (Move.sees_scope x y s end at is f) = inr (refl, (past_scope_names p k x s end y f).1)
 quiet_unless_running p k parents _ _ _ a (Move.breaks_scope x y s failure break group all b at is g c f parts) =
     let known = known_left parents break group (subst (AllKnown parents) parts a) in
@@ -296,6 +283,7 @@ quiet_unless_running p k parents _ _ _ a (Move.breaks_scope x y s failure break 
 quiet_unless_running p k parents _ _ _ a (Move.breaks x failure group s is g) =
     inr (breaks_off_none parents (base_of p) k k failure group a g, refl)
 quiet_unless_running p k parents _ _ _ a (Move.ends x group s is g) = inl s
+quiet_unless_running p k parents _ _ _ a other = inr (refl, refl)
 
 -- a move that attaches nothing and is refused nothing, before others
 quiet_front : (p : Program) (k : ℕ) (done : ℕ → Bool) (x y z : Config) (n m : ℕ) (group more all : List Told) → attach_in group ≡ false

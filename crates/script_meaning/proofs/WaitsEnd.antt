@@ -36,6 +36,7 @@ use Rattle.script_meaning.specs.Laws.{wait_of}
 use Rattle.script_meaning.specs.WaitEnds.{ClauseOf, ScopeClause, past, after_wait, after_value, after_sent, after_closed, WaitEnds}
 use Rattle.script_meaning.proofs.BooksGoOn.{items_in-append}
 use Rattle.script_meaning.proofs.WaitsPlaced.{Placing, acts_allowed, resumed_none, reach_places, reach_leaves}
+use Rattle.script_grammar.proofs.Layouts.{some_block}
 
 -- ---- done channels
 
@@ -78,10 +79,6 @@ ends_as_placed shape IsClause k w told now outcome h l acts e =
 
 -- ---- at a line
 
-some_closing : (o : Option ℕ) → is_some o ≡ true → (e : ℕ) × (o ≡ Some e)
-some_closing None h = cc
-some_closing (Some e) h = (e, refl)
-
 contrary : {A : Type 0} (b : Bool) → b ≡ true → b ≡ false → A
 contrary true p q = absurd (let u : ⊥ = cc in u)
 contrary false p q = absurd (let u : ⊥ = cc in u)
@@ -97,24 +94,24 @@ module _ (p : Program) (k : ℕ) (x : Config) where
   by_value _ _ _ v o s (ClauseOf.join job row n) = contrary _ (done_is_signal p row) s
   by_value _ _ _ v o s (ClauseOf.await job row n) = contrary _ (done_is_signal p row) s
   by_value _ _ _ v o s (ClauseOf.select_receive n c h) =
-      let e = some_closing (closing_of (code_of p k) x.line) (o refl) in
+      let e = some_block (closing_of (code_of p k) x.line) (o refl) in
       subst (λ m. After p k x line.Select (Got v) (past m (received v x))) (sym e.1) (After.chose_got e.0 v e.1)
 
   by_sent : (i : Instruction) (n c : ℕ) → IsClosed i → ClauseOf p k x i true n c → After p k x i Done (after_sent p k x i)
   by_sent _ _ _ o (ClauseOf.send c operand) = After.sent c operand
   by_sent _ _ _ o (ClauseOf.select_send n c v h) =
-      let e = some_closing (closing_of (code_of p k) x.line) (o refl) in
+      let e = some_block (closing_of (code_of p k) x.line) (o refl) in
       subst (λ m. After p k x line.Select Done (past m x)) (sym e.1) (After.chose_send e.0 e.1)
 
   by_closed : (i : Instruction) (n c v : ℕ) → IsClosed i → ClauseOf p k x i false n c → After p k x i (Closed v) (after_closed p k x i)
   by_closed _ _ _ v o (ClauseOf.receive c) = After.no_more c v
   by_closed _ _ _ v o (ClauseOf.each c) =
-      let e = some_closing (closing_of (code_of p k) x.line) (o refl) in
+      let e = some_block (closing_of (code_of p k) x.line) (o refl) in
       subst (λ m. After p k x (line.Each c) (Closed v) (past m x)) (sym e.1) (After.got_all c v e.0 e.1)
   by_closed _ _ _ v o (ClauseOf.join job row n) = After.joined job v
   by_closed _ _ _ v o (ClauseOf.await job row n) = After.awaited job v
   by_closed _ _ _ v o (ClauseOf.select_receive n c h) =
-      let e = some_closing (closing_of (code_of p k) x.line) (o refl) in
+      let e = some_block (closing_of (code_of p k) x.line) (o refl) in
       subst (λ m. After p k x line.Select (Closed v) (past m x)) (sym e.1) (After.chose_closed e.0 v e.1)
 
   ends_by_line : (i : Instruction) (outcome : Settled) → IsClosed i → EndsAtClause (floor_shape p) (ClauseOf p k x i) ⊥ outcome

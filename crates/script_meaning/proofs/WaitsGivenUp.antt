@@ -27,8 +27,6 @@ given_up_end (Some x) outcome e = up_some x.resolved outcome e
 
 -- a wait that was resolved before
 pub dispatched : (w : WaitId) (outcome : Settled) → is_given_up outcome ≡ true → GivesUp w (made (Settle w outcome) ∷ [])
-dispatched w (settled.Value n v) e = cc
-dispatched w (settled.Sent n) e = cc
-dispatched w (settled.Closed n v) e = cc
 dispatched w settled.Cancelled e = GivesUp.dispatched
 dispatched w (settled.Undelivered v) e = GivesUp.undelivered v
+dispatched w other e = cc

@@ -1,6 +1,7 @@
 -- Each wait has the number of a channel of the floor.
 use Rattle.std.specs.Prelude.{◌≡◌, ℕ, ◌<◌, ◌≤◌, Bool, true, false, List, [], ◌∷◌, length, ◌⊎◌, Option, Some, None, MatchBool, refl}
 use Rattle.std.proofs.Common.{sym, subst, inl, inr, ⊎_elim}
+use Rattle.std.proofs.lemmas.Option.{same_Some}
 use Rattle.co_base.specs.declared.names.WaitId.{WaitId}
 use Rattle.channel_model.specs.declared.acts.Act.{Act}
 use Rattle.channel_model.specs.declared.acts.Act.TheVariants.{Hand, Offer, Await}
@@ -37,14 +38,11 @@ named_there shape n k c p w s h lt may = by_test (same_wait w (record { channel 
     by_test true e m = subst (λ (u : WaitId). u.channel < length shape) (sym (same_wait-eq w (record { channel = c; place = p }) e)) lt
     by_test false e m = joined (s.waits w) refl m
 
-same_name : (u v : WaitId) → Some u ≡ Some v → u ≡ v
-same_name u v e = cc
-
 begun_there : (shape : Shape) (n : ℕ) (v : WaitId) (s : State) (act : Act) → AllInFloor shape s → Needs shape s n act → begins act ≡ Some v
     → v.channel < length shape
-begun_there shape n v s (Offer c p x w k) h needs e = subst (λ (u : WaitId). u.channel < length shape) (same_name w v e)
+begun_there shape n v s (Offer c p x w k) h needs e = subst (λ (u : WaitId). u.channel < length shape) (same_Some w v e)
     (named_there shape n k c p w s h needs.0 needs.4)
-begun_there shape n v s (Await c p w k) h needs e = subst (λ (u : WaitId). u.channel < length shape) (same_name w v e)
+begun_there shape n v s (Await c p w k) h needs e = subst (λ (u : WaitId). u.channel < length shape) (same_Some w v e)
     (named_there shape n k c p w s h needs.0 needs.3)
 begun_there shape n v s (Hand c p x) h needs e = cc
 begun_there shape n v s other h needs e = cc

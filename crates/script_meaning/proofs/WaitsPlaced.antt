@@ -96,10 +96,9 @@ module _ (IsClause : Bool → ℕ → ℕ → Type 0) (w : WaitId) where
   of_spent (receives c) = cons _ _ tt (one _ tt)
 
   of_stops : (call : Call) (g : List Told) (a : Answer) → Stops call g a → IsAllowed IsClause w g
-  of_stops _ _ _ (Stops.receiver c v q) = cons _ _ tt (one _ tt)
-  of_stops _ _ _ (Stops.offer c q) = cons _ _ tt (one _ tt)
   of_stops _ _ _ (Stops.closed call t a h) = one t (of_refused call t a h)
   of_stops _ _ _ (Stops.no_place call all e) = same all _ e (of_spent call)
+  of_stops _ _ _ other = cons _ _ tt (one _ tt)
 
   -- ---- the acts
 
@@ -165,7 +164,6 @@ module _ (IsClause : Bool → ℕ → ℕ → Type 0) where
       → Placing IsClause w g
   plain_places _ _ _ w (PlainCall.at_once call g a h) e f = once_not call g a w h e
   plain_places _ _ _ w (PlainCall.refused call t a h) e f = refused_not call t a w h e
-  plain_places _ _ _ w (PlainCall.no_place call all h) e f = absurd (let u : ⊥ = cc in u)
   plain_places _ _ _ w (PlainCall.offers c v q admits h) e f =
       let same_w : wait_at c q ≡ w = cc in
       subst (λ u. Placing IsClause u (offer_told c v q admits)) same_w
@@ -178,7 +176,6 @@ module _ (IsClause : Bool → ℕ → ℕ → Type 0) where
             (refl, refl);
         allowed = cons IsClause (wait_at c q) _ admits (λ t. f) (of_admits IsClause (wait_at c q) c admits h);
       })
-  plain_places _ _ _ w (PlainCall.offer_ends c v q admits settles all h s is) e f = absurd (let u : ⊥ = cc in u)
   plain_places _ _ _ w (PlainCall.awaits c q) e f =
       let same_w : wait_at c q ≡ w = cc in
       subst (λ u. Placing IsClause u (made (Await c q (wait_at c q) 0) ∷ [])) same_w
@@ -191,12 +188,11 @@ module _ (IsClause : Bool → ℕ → ℕ → Type 0) where
         allowed =
             one IsClause (wait_at c q) _ (λ t. f);
       })
+  plain_places _ _ _ w other e f = absurd (let u : ⊥ = cc in u)
 
   try_not : {A : Type 0} (call : Call) (g : List Told) (a : Answer) (w : WaitId) → TryCall call g a → a ≡ Waits w → A
   try_not _ _ _ w (TryCall.at_once call g a h) e = once_not call g a w h e
-  try_not _ _ _ w (TryCall.refused call t h) e = absurd (let u : ⊥ = cc in u)
-  try_not _ _ _ w (TryCall.blocks call) e = absurd (let u : ⊥ = cc in u)
-  try_not _ _ _ w (TryCall.no_place c v) e = absurd (let u : ⊥ = cc in u)
+  try_not _ _ _ w other e = absurd (let u : ⊥ = cc in u)
 
   -- ---- selects
 
@@ -326,21 +322,8 @@ data FromCall (x : Config) (a : Answer) (y : Config) : Type 0 where
 after_call : (p : Program) (k : ℕ) (x : Config) (i : Instruction) (a : Answer) (y : Config) → (a ≡ LooksAgain → wait_of x.stage ≡ None)
     → After p k x i a y → FromCall x a y
 after_call p k x _ _ _ n (After.waits i w) = FromCall.waits w refl refl
-after_call p k x _ _ _ n (After.no_place i) = FromCall.none refl
-after_call p k x _ _ _ n (After.sent c o) = FromCall.none refl
-after_call p k x _ _ _ n (After.tried_to_send c o) = FromCall.none refl
-after_call p k x _ _ _ n (After.got c v) = FromCall.none refl
-after_call p k x _ _ _ n (After.no_more c v) = FromCall.none refl
-after_call p k x _ _ _ n (After.tried_and_got c v) = FromCall.none refl
-after_call p k x _ _ _ n (After.tried_to_get c) = FromCall.none refl
-after_call p k x _ _ _ n (After.got_one_more c v) = FromCall.none refl
-after_call p k x _ _ _ n (After.got_all c v e h) = FromCall.none refl
-after_call p k x _ _ _ n (After.chose_send e h) = FromCall.none refl
-after_call p k x _ _ _ n (After.chose_got e v h) = FromCall.none refl
-after_call p k x _ _ _ n (After.chose_closed e v h) = FromCall.none refl
 after_call p k x _ _ _ n After.looks_again = FromCall.none (n refl)
-after_call p k x _ _ _ n (After.joined job v) = FromCall.none refl
-after_call p k x _ _ _ n (After.awaited job v) = FromCall.none refl
+after_call p k x _ _ _ n other = FromCall.none refl
 
 -- how a move came to a wait, if it did
 data ComesTo (p : Program) (k : ℕ) (g : List Told) (y : Config) : Type 0 where
@@ -361,7 +344,7 @@ resumed_not _ _ (Resumed.value n v) e = absurd (let u : ⊥ = cc in u)
 resumed_not _ _ (Resumed.sent n) e = absurd (let u : ⊥ = cc in u)
 resumed_not _ _ (Resumed.closed n v) e = absurd (let u : ⊥ = cc in u)
 
-resumed_waits : {A : Type 0} (outcome : _) (a : Answer) (w : WaitId) → Resumed outcome a → a ≡ Waits w → A
+pub resumed_waits : {A : Type 0} (outcome : _) (a : Answer) (w : WaitId) → Resumed outcome a → a ≡ Waits w → A
 resumed_waits _ _ w (Resumed.value n v) e = absurd (let u : ⊥ = cc in u)
 resumed_waits _ _ w (Resumed.sent n) e = absurd (let u : ⊥ = cc in u)
 resumed_waits _ _ w (Resumed.closed n v) e = absurd (let u : ⊥ = cc in u)
@@ -390,41 +373,17 @@ by_end : (p : Program) (k : ℕ) (x : Config) (s : InScope) (first group all : L
     → scope_in x.entered ≡ Some s → all ≡ first ++ group → PlainCall (receives (done_channel (base_of p) s.row)) group a
     → AtScopeEnd k x s a y → ComesTo p k all y
 by_end p k x s first group all _ _ e q c (AtScopeEnd.waits w) = ComesTo.leaves w x s first group refl e q c
-by_end p k x s first group all _ _ e q c (AtScopeEnd.closed v) = ComesTo.none refl
-by_end p k x s first group all _ _ e q c AtScopeEnd.no_place = ComesTo.none refl
+by_end p k x s first group all _ _ e q c other = ComesTo.none refl
 
 move_comes : (p : Program) (k : ℕ) (x y : Config) (g : List Told) → Move p k x g y → ComesTo p k g y
-move_comes p k _ _ _ (Move.runs x s) = ComesTo.none refl
-move_comes p k _ _ _ (Move.never_runs x s) = ComesTo.none refl
 move_comes p k _ _ _ (Move.calls x y i g a at h f) = by_call p k x i g a y at.line_is h
     (after_call p k x i a y (λ e. ap wait_of at.stage) f)
 move_comes p k _ _ _ (Move.resumes x y w i outcome a s l r f) = ComesTo.none (resumed_none p k x i outcome a y r f)
-move_comes p k _ _ _ (Move.cancelled x w s) = ComesTo.none refl
-move_comes p k _ _ _ (Move.gives_up x w g s h) = ComesTo.none refl
 move_comes p k _ _ _ (Move.sees_job x y job row end s l n f) = by_await p k _ x end y f
-move_comes p k _ _ _ (Move.closes x c g s h) = ComesTo.none refl
-move_comes p k _ _ _ (Move.cancels_channel x c g s h) = ComesTo.none refl
-move_comes p k _ _ _ (Move.yields x s) = ComesTo.none refl
-move_comes p k _ _ _ (Move.stops_at_yield x s) = ComesTo.none refl
-move_comes p k _ _ _ (Move.stops_at_join x job s) = ComesTo.none refl
-move_comes p k _ _ _ (Move.launches x block how job now s) = ComesTo.none refl
-move_comes p k _ _ _ (Move.launch_refused x block how job g s h) = ComesTo.none refl
-move_comes p k _ _ _ (Move.enters x supervisor row now s) = ComesTo.none refl
-move_comes p k _ _ _ (Move.enter_refused x supervisor g s h) = ComesTo.none refl
-move_comes p k _ _ _ (Move.starts x job row g s n h) = ComesTo.none refl
-move_comes p k _ _ _ (Move.cancels x job row newly g s n h) = ComesTo.none refl
-move_comes p k _ _ _ (Move.fails x v s) = ComesTo.none refl
-move_comes p k _ _ _ (Move.results x o s) = ComesTo.none refl
-move_comes p k _ _ _ (Move.repeats x n s) = ComesTo.none refl
-move_comes p k _ _ _ (Move.turns_again x head n es s e) = ComesTo.none refl
-move_comes p k _ _ _ (Move.turns_no_more x head es s e) = ComesTo.none refl
-move_comes p k _ _ _ (Move.receives_again x head es s e) = ComesTo.none refl
 move_comes p k _ _ _ (Move.ends_scope x y s end g all a l e h c f q) = by_end p k x s end g all a y (ap scope_in e) q c f
-move_comes p k _ _ _ (Move.scope_ended x w n v s) = ComesTo.none refl
 move_comes p k _ _ _ (Move.sees_scope x y s end l e f) = by_scope p k _ x s end y f
 move_comes p k _ _ _ (Move.breaks_scope x y s failure break g all a l e h c f q) = by_end p k x s break g all a y e q c f
-move_comes p k _ _ _ (Move.breaks x failure g s e h) = ComesTo.none refl
-move_comes p k _ _ _ (Move.ends x g s e h) = ComesTo.none refl
+move_comes p k _ _ _ other = ComesTo.none refl
 
 -- ---- what was told
 

@@ -19,8 +19,8 @@ use Rattle.script_grammar.proofs.Truths.{both_true, le-true, le-from_true}
 use Rattle.script_grammar.proofs.SizesSoFar.{size_in-light}
 use Rattle.script_grammar.proofs.JobsCounted.{whole_load-job_count}
 use Rattle.script_grammar.proofs.TextsRead.{finish_again}
-use Rattle.script_grammar.proofs.Layouts.{all_push}
 use Rattle.script_reader.proofs.Tables.{few_coroutines}
+use Rattle.channel_model.proofs.Elements.{all_push}
 
 -- ---- sizes
 

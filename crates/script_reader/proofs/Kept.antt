@@ -13,12 +13,12 @@ use Rattle.script_grammar.specs.Reads.{Read, Form, version_is, channel_is, corou
 use Rattle.script_grammar.specs.Grammar.{is_name, names_job, Says, Within}
 use Rattle.script_grammar.proofs.Truths.{both, both_true, lt-true, lt-from_true, le-true, le-from_true}
 use Rattle.script_grammar.proofs.DistinctNames.{fresh_none}
-use Rattle.script_grammar.proofs.Layouts.{all_push}
 use Rattle.script_reader.specs.Holding.{IsKept, WeighsJobs, IsNewBlock, line_count, open_cost, cost}
 use Rattle.script_reader.specs.Entering.{CanEnter, IsNewName, IsNewJob}
 use Rattle.script_reader.specs.declared.script.Coroutine.{Coroutine}
 use Rattle.script_reader.specs.Programs.{block_of}
 use Rattle.script_reader.proofs.Lengths.{text_length}
+use Rattle.channel_model.proofs.Elements.{all_push}
 
 -- ---- Jobs
 

@@ -1,5 +1,5 @@
 -- The load of a script, with one line more.
-use Rattle.std.proofs.Common.{◌≡◌, ℕ, ◌+◌, ◌*◌, ◌<◌, ◌≤◌, List, [], ◌∷◌, ◌++◌, length, Bool, true, false, nat_lt, nat_le, refl, ap, sym, ◌∙◌, arith, subst, ap₂, append-nil, get_or, Option, Some, None, Result, Ok, Err, if◌then◌else◌}
+use Rattle.std.proofs.Common.{◌≡◌, ℕ, ◌+◌, ◌*◌, ◌<◌, ◌≤◌, List, [], ◌∷◌, ◌++◌, length, Bool, true, false, nat_lt, refl, ap, sym, ◌∙◌, arith, subst, ap₂, append-nil, get_or, Option, Some, None, Result, Ok, Err, if◌then◌else◌}
 use Rattle.std.specs.Prelude.{option_map}
 use Rattle.std.specs.List.{list_all}
 use Rattle.std.proofs.lemmas.List.{get_or_append_left}
@@ -17,15 +17,12 @@ use Rattle.script_grammar.proofs.Truths.{both_true, lt-from_true}
 use Rattle.script_grammar.proofs.PlacesRead.{at_most_again}
 use Rattle.script_grammar.proofs.BlocksPrinted.{closed_main-push, spawned_weight-append}
 use Rattle.script_grammar.proofs.TextsRead.{deep_again, light_again}
-use Rattle.std.proofs.lemmas.Bool.Decides.{nat_tests}
-
-le-false : (m n : ℕ) → n < m → nat_le m n ≡ false
-le-false m n h = grind (arith, nat_tests)
+use Rattle.std.proofs.lemmas.Bool.{lt-leb}
 
 -- ---- limits
 
 over : (limit n : ℕ) → limit < n → at_most TooMany limit n ≡ Err TooMany
-over limit n h = ap (λ b. if◌then◌else◌ {A = Result (Unit {0}) FaultKind} b (Ok tt) (Err TooMany)) (le-false n limit h)
+over limit n h = ap (λ b. if◌then◌else◌ {A = Result (Unit {0}) FaultKind} b (Ok tt) (Err TooMany)) (lt-leb n limit h)
 
 -- where the open block is within its limits, the limits of all are looked at
 within_block : (s : Read) → IsWithin s.current → limited s ≡

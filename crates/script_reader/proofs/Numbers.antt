@@ -7,19 +7,16 @@ use Rattle.std.proofs.lemmas.Str.{IsUtf8-from_ascii}
 use Rattle.std.specs.Str.{all_ascii_digits, IsUtf8}
 use Rattle.std.specs.Str.Parse.{digits_value, ParsesUnsigned}
 use Rattle.std.specs.Result.{result_ok}
+use Rattle.std.proofs.lemmas.Bool.{and_parts}
 use Rattle.script_grammar.specs.Places.{is_number, value_at}
 use Rattle.script_grammar.proofs.Truths.{lt-true}
 
 pub own : IsNumeralModel (λ ds. all_ascii_digits ds ≡ true) (digits_value 10)
 own = numerals_by_value _ tells_all_ascii_digits
 
-first_true : (a b : Bool) → (a && b) ≡ true → a ≡ true
-first_true true b e = refl
-first_true false b e = e
-
 pub number_digits : (word : List ℕ) → is_number word ≡ true → all_ascii_digits word ≡ true
 number_digits [] n = cc
-number_digits (b ∷ rest) n = first_true _ _ n
+number_digits (b ∷ rest) n = (and_parts _ _ n).0
 
 pub number_some : (word : List ℕ) → is_number word ≡ true → 0 < length word
 number_some [] n = cc

@@ -1,8 +1,9 @@
 -- What the placing of a clause tells and leaves, by the floor's answer.
-use Rattle.std.specs.Prelude.{◌≡◌, ℕ, ◌==◌, ◌||◌, Bool, true, false, List, [], ◌∷◌, ◌++◌, Option, Some, None, Ok, refl, if◌then◌else◌}
+use Rattle.std.specs.Prelude.{◌≡◌, ℕ, ◌==◌, Bool, true, false, List, [], ◌∷◌, ◌++◌, Option, Some, None, Ok, refl, if◌then◌else◌}
 use Rattle.std.specs.List.{list_any}
 use Rattle.std.proofs.Common.{sym, ap, ◌∙◌, subst, arith}
 use Rattle.std.proofs.lemmas.Bool.Decides.{nat_tests}
+use Rattle.std.proofs.lemmas.Bool.{or_left, or_right}
 use Rattle.co_base.specs.declared.names.WaitId.{WaitId}
 use Rattle.channel_model.specs.declared.acts.Act.{Act}
 use Rattle.channel_model.specs.declared.acts.Act.TheVariants.{Offer, Await}
@@ -124,13 +125,6 @@ held_on {n} {a} {b} {d} l (Some w) legal h m cs f =
     let at_b : HasClauses a.who cs ((state_in b).waits w) = subst (λ es. HasClauses a.who cs ((replay es).waits w)) (sym h.room.seen) f in
     others_keep_clauses d.shape a.who cs w b.floor.seen d.seen legal (replay_placed d.shape b.floor.seen legal_b) m.longer m.mine at_b
 
-either_left : (x y : Bool) → x ≡ true → (x || y) ≡ true
-either_left x y e = ap (λ b. b || y) e
-
-either_right : (x y : Bool) → y ≡ true → (x || y) ≡ true
-either_right true y e = refl
-either_right false y e = e
-
 none_stands : {A : Type 0} (place : ℕ) (rs : List Receiver) → rs ≡ [] → list_any (λ r. r.place == place) rs ≡ true → A
 none_stands place rs e f = let no_way : false ≡ true = ap (list_any (λ (r : Receiver). r.place == place)) (sym e) ∙ f in cc
 
@@ -178,7 +172,7 @@ module _ (c v k : ℕ) (main : Option WaitId) {n : ℕ} {a b : SeenOnChannels} {
       record {
         told = on_channels (ReceiverAt c place) ∷ heard (Partner c place) ∷ [];
         goes = Stops.receiver c v place;
-        left = roomed h (told_met_after (ReceiverAt c place) (Partner c place) refl o.0 o.1 (either_left _ _ o.1.holds) refl f);
+        left = roomed h (told_met_after (ReceiverAt c place) (Partner c place) refl o.0 o.1 (or_left _ _ o.1.holds) refl f);
       },
       held_on l main legal h o.0,
     ),
@@ -252,7 +246,7 @@ module _ (c k : ℕ) (main : Option WaitId) {n : ℕ} {a b : SeenOnChannels} {d 
       record {
         told = on_channels (OfferAt c place) ∷ heard (Partner c place) ∷ [];
         goes = Stops.offer c place;
-        left = roomed h (told_met_after (OfferAt c place) (Partner c place) refl o.0 o.1 (either_right _ _ o.1.holds) refl f);
+        left = roomed h (told_met_after (OfferAt c place) (Partner c place) refl o.0 o.1 (or_right _ _ o.1.holds) refl f);
       },
       held_on l main legal h o.0,
     ),

@@ -5,7 +5,7 @@ use Rattle.std.proofs.Common.{sym, ap, ◌∙◌, subst, arith}
 use Rattle.std.proofs.lemmas.Bool.Decides.{nat_tests}
 use Rattle.co_base.specs.declared.names.WaitId.{WaitId}
 use Rattle.channel_model.specs.declared.acts.Act.{Act}
-use Rattle.channel_model.specs.declared.acts.Act.TheVariants.{Hand, Put, Offer, Await, Take, Admit, Drop, Spurn, Close, Void, Drain, WakeClosed, Withdraw, Settle}
+use Rattle.channel_model.specs.declared.acts.Act.TheVariants.{Hand, Offer, Await, Take, Admit, Drop, Drain, WakeClosed, Withdraw, Settle}
 use Rattle.channel_model.specs.declared.acts.Entry.{Entry}
 use Rattle.channel_model.specs.declared.acts.Settled.{Settled}
 use Rattle.channel_model.specs.declared.standing.Party.{Party}
@@ -20,6 +20,7 @@ use Rattle.channel_model.proofs.Histories.{replay_from-append, LegalFrom-parts, 
 use Rattle.channel_model.proofs.Placed.{Placed, placed_after}
 use Rattle.channel_model.proofs.Waits.{same_wait-eq, one_change}
 use Rattle.select_calls.specs.Parts.{HasClauses}
+use Rattle.channel_model.proofs.Others.{nothing_left}
 
 module _ (who : ℕ) (cs : List (ℕ × ℕ)) where
   resolved_has : (how : Resolution) (x : Option Wait) → HasClauses who cs x → HasClauses who cs (resolved_wait how x)
@@ -89,19 +90,16 @@ module _ (who : ℕ) (cs : List (ℕ × ℕ)) where
   other_has : (shape : Shape) (n : ℕ) (w : WaitId) (s : State) (act : Act) → Placed s → n ≢ who → Needs shape s n act
       → HasClauses who cs (s.waits w) → HasClauses who cs ((after s n act).waits w)
   other_has shape n w s (Hand c p x) placed apart m h = first_has w _ _ s h
-  other_has shape n w s (Put c p x) placed apart m h = h
   other_has shape n w s (Offer c p x u k) placed apart m h = named_has n k c p _ u w s placed apart m.1 m.4 h
   other_has shape n w s (Await c p u k) placed apart m h = named_has n k c p _ u w s placed apart m.1 m.3 h
   other_has shape n w s (Take c p x) placed apart m h = offer_has w c _ _ s h
   other_has shape n w s (Admit c p) placed apart m h = holder_has w (holder_at p (s.channels c).queue) _ _ h
   other_has shape n w s (Drop c p x) placed apart m h = removed_has w c (s.channels c).queue s h
-  other_has shape n w s (Spurn c p x) placed apart m h = h
-  other_has shape n w s (Close c x) placed apart m h = h
-  other_has shape n w s (Void c) placed apart m h = h
   other_has shape n w s (Drain c p x) placed apart m h = offer_has w c _ _ s h
   other_has shape n w s (WakeClosed c p) placed apart m h = first_has w _ _ s h
   other_has shape n w s (Withdraw u why) placed apart m h = resolve_has w u _ s h
   other_has shape n w s (Settle u outcome) placed apart m h = settle_has n outcome u w s apart m h
+  other_has shape n w s other placed apart m h = h
 
   -- entries of others alone
   none_own : (e : Entry) (es : List Entry) (b : Bool) → (e.who == who) ≡ b → (if b then e.act ∷ acts_of who es else acts_of who es) ≡ []
@@ -117,10 +115,6 @@ module _ (who : ℕ) (cs : List (ℕ × ℕ)) where
       let m = none_own e es (e.who == who) refl n in
       others_from shape w (after s e.who e.act) es l.1 (placed_after shape s e.who e.act l.0 placed) m.1
       (other_has shape e.who w s e.act placed m.0 l.0 h)
-
-nothing_left : {A : Type 0} (xs ys : List A) → xs ++ ys ≡ xs → ys ≡ []
-nothing_left [] ys e = e
-nothing_left (x ∷ xs) ys e = nothing_left xs ys (let k : xs ++ ys ≡ xs = cc in k)
 
 -- between two moments with no act of who
 pub others_keep_clauses : (shape : Shape) (who : ℕ) (cs : List (ℕ × ℕ)) (w : WaitId) (xs ys : List Entry) → Legal shape ys

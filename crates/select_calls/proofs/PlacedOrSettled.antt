@@ -94,10 +94,9 @@ refused_settles_none _ _ _ (Refused.send c v u) = refl
 refused_settles_none _ _ _ (Refused.receive c u) = refl
 
 pub stop_settles_none : (call : Call) (told : List Told) (a : Answer) → Stops call told a → HasNo settles told
-stop_settles_none _ _ _ (Stops.receiver c v q) = refl
-stop_settles_none _ _ _ (Stops.offer c q) = refl
 stop_settles_none _ _ _ (Stops.closed call told a h) = ap (λ b. b || false) (refused_settles_none call told a h)
 stop_settles_none _ _ _ (Stops.no_place call all e) = ap (list_any settles) e ∙ spent_settles_none call
+stop_settles_none _ _ _ other = refl
 
 -- what is withdrawn is settled
 pub revoked_settles : (w : WaitId) (xs ys : List Told) → list_any settles (xs ++ (revoked w ++ ys)) ≡ true

@@ -1,5 +1,5 @@
 -- Where nobody else makes entries, a call that made none leaves each moment of it as the one before.
-use Rattle.std.specs.Prelude.{◌≡◌, ℕ, true, List, [], ◌∷◌, ◌++◌, refl}
+use Rattle.std.specs.Prelude.{◌≡◌, ℕ, true, List, [], ◌++◌}
 use mathlib.Core.List.{IsPrefix}
 use Rattle.std.proofs.Common.{sym, ap, ◌∙◌, subst, append_assoc}
 use Rattle.channel_model.specs.declared.acts.Entry.{Entry}
@@ -7,14 +7,7 @@ use Rattle.channel_model.specs.Channels.{State}
 use Rattle.channel_model.specs.Histories.{replay}
 use Rattle.channel_model.specs.Floors.{Floor, HasRoom, Looked, AtStep}
 use Rattle.channel_model.proofs.Spans.{nothing_more}
-
-nothing_left : {A : Type 0} (xs ys : List A) → xs ++ ys ≡ xs → ys ≡ []
-nothing_left [] ys e = e
-nothing_left (x ∷ xs) ys e = nothing_left xs ys (let k : xs ++ ys ≡ xs = cc in k)
-
-front_empty : {A : Type 0} (xs ys : List A) → xs ++ ys ≡ [] → xs ≡ []
-front_empty [] ys e = refl
-front_empty (x ∷ xs) ys e = cc
+use Rattle.channel_model.proofs.Others.{nothing_left, front_empty}
 
 same_moment : (xs m : List Entry) → IsPrefix xs m → IsPrefix m xs → m ≡ xs
 same_moment xs m p q =

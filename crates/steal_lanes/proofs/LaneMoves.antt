@@ -1,13 +1,13 @@
 -- Each put and take keeps the rule of a lane.
-use Rattle.std.proofs.Common.{◌≡◌, ◌≢◌, ℕ, zero, suc, ◌+◌, ◌≤◌, Bool, true, false, List, [], ◌∷◌, ◌++◌, length, set, if◌then◌else◌, Option, Some, None, Result, Ok, Err, MatchOption, MatchResult, sym, refl, ap, ◌∙◌, subst, ⊎_elim, append_assoc, append-nil, arith}
+use Rattle.std.proofs.Common.{◌≡◌, ◌≢◌, ℕ, ◌+◌, ◌≤◌, Bool, true, false, List, [], ◌∷◌, ◌++◌, length, set, if◌then◌else◌, Option, Some, None, Result, Ok, Err, MatchOption, MatchResult, sym, refl, ap, ◌∙◌, subst, ⊎_elim, append_assoc, append-nil, arith}
 use Rattle.std.proofs.lemmas.List.{length-append}
-use mathlib.Core.Option.{some, some-injective, some-ne-none}
+use mathlib.Core.Option.{some}
 use lib.ListN.{get_elem?}
 use Rattle.crossbeam_deque.specs.Tasks.{Pushes, Takes, Admits}
 use Rattle.crossbeam_deque.proofs.Lists.{at_set, at_snoc}
 use Rattle.steal_lanes.specs.declared.lane_view.LaneOp.{LaneOp}
 use Rattle.steal_lanes.specs.declared.lane_view.LaneView.{LaneView}
-use Rattle.steal_lanes.specs.Queues.{op, puts, takes, owner, guest, queue_after, MayCome, Replays, tickets_put, Knows, IsLane, Adds}
+use Rattle.steal_lanes.specs.Queues.{op, puts, takes, guest, queue_after, MayCome, Replays, tickets_put, Knows, IsLane, Adds}
 
 replays_longer : (q r : List ℕ) (log : List LaneOp) (e : LaneOp) → Replays q log r → MayCome r e.is_put e.ticket
     → Replays q (log ++ e ∷ []) (queue_after r e.is_put e.ticket)
@@ -87,18 +87,6 @@ admits_guest items views h = record {
   where
     false_true : false ≡ true → ⊥
     false_true o = let k : false ≡ true = o in cc
-
-pub opens : IsLane [] (owner ∷ [])
-opens = record {
-  log = [];
-  replays = refl;
-  known = λ port v at. by_port port v at;
-}
-  where
-    by_port : (port : ℕ) (v : LaneView) → get_elem? (owner ∷ []) port ≡ some v → Knows [] port v
-    by_port zero v at = subst (Knows [] 0) (some-injective owner v at)
-        (record { more = []; begins = refl; first = λ o. refl; puts_seen = λ o. refl })
-    by_port (suc port) v at = absurd (some-ne-none v (sym at))
 
 -- ---- how many tickets were put
 

@@ -6,7 +6,6 @@ use Rattle.channel_model.specs.declared.acts.Act.TheVariants.{Hand, Put, Offer, 
 use Rattle.channel_model.specs.declared.acts.ChannelNote.TheVariants as of_channel
 use Rattle.channel_model.specs.declared.acts.Settled.{Settled}
 use Rattle.channel_model.specs.declared.acts.Settled.TheVariants as settled
-use Rattle.channel_fates.proofs.Appended.{count_last}
 use Rattle.job_model.specs.declared.acts.End.{End}
 use Rattle.job_model.specs.declared.acts.End.TheVariants as ends
 use Rattle.job_model.specs.declared.acts.JobAct.{JobAct}
@@ -25,6 +24,7 @@ use Rattle.tally_book.specs.declared.numbers.JobNumbers.{JobNumbers}
 use Rattle.tally_book.specs.declared.numbers.Numbers.{Numbers}
 use Rattle.tally_book.specs.Numbers.{with_act_in, with_outcome, settled_with, with_job_act_in, with_end_in, acts_with, jobs_with, with_note, AreWithin}
 use Rattle.tally_book.specs.Kept.{tally_in, job_tally_in, AreOf}
+use Rattle.channel_model.proofs.Apart.{how_many_push}
 
 -- ---- one act on channels
 
@@ -142,10 +142,10 @@ job_last : (acts : List JobAct) (a : JobAct)
       cancelled = (job_tally_of acts).cancelled + cond (cancels_one a) 1 0;
     }
 job_last acts a = λ i. record {
-  attached = count_last attaches_one acts a i;
-  completed = count_last completes_one acts a i;
+  attached = how_many_push attaches_one acts a i;
+  completed = how_many_push completes_one acts a i;
   cancelled =
-      count_last cancels_one acts a i;
+      how_many_push cancels_one acts a i;
 }
 
 -- ---- one note

@@ -3,6 +3,7 @@ use Rattle.std.specs.Prelude.{◌≡◌, ℕ, ◌+◌, ◌==◌, Bool, true, fal
 use Rattle.std.specs.List.{list_any}
 use Rattle.std.proofs.Common.{sym, ap, ◌∙◌, arith}
 use Rattle.std.proofs.Math.Bool.{or-true}
+use Rattle.std.proofs.lemmas.Bool.{false_from_ne_true, both_ways}
 use Rattle.co_base.specs.declared.names.WaitId.{WaitId}
 use Rattle.channel_model.specs.declared.acts.Act.{Act}
 use Rattle.channel_model.specs.declared.acts.Act.TheVariants.{Hand, Put, Offer, Take, Drop, Spurn, Drain, WakeClosed, Withdraw, Settle}
@@ -21,7 +22,6 @@ use Rattle.tally_laws.specs.Tallies.{Tally, empty, count_of, tally_of, tallied}
 use Rattle.tally_laws.proofs.Summed.{sum_same}
 use Rattle.tally_laws.proofs.Counting.{count_same}
 use Rattle.tally_laws.proofs.Kept.{replay_kept}
-use Rattle.tally_laws.proofs.Shares.{is_false, not_both}
 use Rattle.tally_laws.proofs.FatesOf.{fates_counted}
 use Rattle.tally_laws.proofs.Summing.{NobodyPast, by_callers, sum_over, by_items, item_past}
 use Rattle.tally_laws.proofs.OneWaits.{waits_after, stateless, offers_as, ended_offers}
@@ -54,13 +54,13 @@ settled_offer acts other = refl
 
 settled_or_not : (who : ℕ) (x : Option Wait) → IsSettledWait x → IsUnsettledOf who x → ⊥
 settled_or_not who None a b = a
-settled_or_not who (Some x) a b = let d : is_some x.settled ≡ false = ap is_some b.1 in not_both _ a d
+settled_or_not who (Some x) a b = let d : is_some x.settled ≡ false = ap is_some b.1 in both_ways _ d a
 
 module _ (shape : Shape) (history : List Entry) (l : Legal shape history) (who : ℕ) (one : has_one_wait None (acts_of who history) ≡ true)
   where
     last_open : (w : WaitId) → waits_after None (acts_of who history) ≡ Some w → ends_in (acts_in history) w ≡ false
     last_open w e =
-        is_false (ends_in (acts_in history) w)
+        false_from_ne_true (ends_in (acts_in history) w)
         (λ h. settled_or_not who ((replay history).waits w) ((replay_kept shape history l).settled w h)
         ((replay_tracked shape who history l one).has w e))
 

@@ -2,7 +2,7 @@
 use Rattle.std.specs.Prelude.{◌≡◌, ℕ, ◌+◌, ◌≤◌, ◌==◌, Bool, true, false, not, ◌&&◌, ◌||◌, cond, List, [], ◌∷◌, length, Option, Some, None, refl, if◌then◌else◌}
 use Rattle.std.specs.List.{list_any}
 use Rattle.std.proofs.Common.{sym, ap, ◌∙◌, arith, ⊎_elim}
-use Rattle.std.proofs.lemmas.Bool.{eqb-true}
+use Rattle.std.proofs.lemmas.Bool.{eqb-true, and_parts, false_from_ne_true, and_from, and_right, both_ways}
 use Rattle.co_base.specs.declared.names.WaitId.{WaitId}
 use Rattle.channel_model.specs.declared.acts.Act.{Act}
 use Rattle.channel_model.specs.declared.acts.Act.TheVariants.{Hand, Put, Offer, Await, Take, Drop, Spurn, Drain, WakeClosed, Withdraw, Settle}
@@ -14,11 +14,11 @@ use Rattle.channel_model.specs.Laws.{how_many}
 use Rattle.channel_model.proofs.Waits.{same_wait-eq, same_wait-refl}
 use Rattle.channel_fates.proofs.Appended.{any_count, none_count, count_any, found, first_there}
 use Rattle.channel_fates.proofs.OncePlaced.{enters, awaits, answers, Counted, at_both}
-use Rattle.channel_fates.proofs.StandsByActs.{puts, offers, enters_count, clause_offered, here}
+use Rattle.channel_fates.proofs.StandsByActs.{puts, offers, enters_count, clause_offered, here, hand_answers}
 use Rattle.channel_fates.proofs.Chosen.{Chosen, resolver, resolver_is, resolver_given, wait_counted, put_alone}
 use Rattle.channel_fates.proofs.ChosenOnce.{admitted_resolved}
 use Rattle.channel_fates.proofs.OwnPlaces.{name_of, alone}
-use Rattle.channel_fates.proofs.AtMostOne.{and_both, some_wait, leaves_count}
+use Rattle.channel_fates.proofs.AtMostOne.{some_wait, leaves_count}
 use Rattle.tally_laws.specs.Sums.{sum_places}
 use Rattle.tally_laws.specs.Kinds.{is_hand, is_put, is_offer, is_take, is_drop, is_spurn, is_drain, is_wake, is_withdraw, is_settle, gives_value, gives_up, settles_wait, is_plain_offer, takes_back, offers_settled}
 use Rattle.tally_laws.specs.Settlings.{ResolvedAreSettled}
@@ -26,7 +26,8 @@ use Rattle.tally_laws.proofs.Summed.{places_same}
 use Rattle.tally_laws.proofs.Counting.{count_sum, count_less, any_one, spread, IsIn, AtOne, by_places, at_its_place, by_one_test}
 use Rattle.tally_laws.proofs.Given.{IsPlace, WasHanded, HandPlace, HasBegun}
 use Rattle.tally_laws.proofs.Kept.{Kept}
-use Rattle.tally_laws.proofs.Shares.{is_handed_as, is_taken_offer, is_chosen_at, is_sent_at, is_open_at, is_false, not_both, and_holds, and_not, counts_one, counts_none, offer_names}
+use Rattle.tally_laws.proofs.Shares.{is_handed_as, is_taken_offer, is_chosen_at, is_sent_at, is_open_at, counts_one, counts_none}
+use Rattle.channel_fates.proofs.HeldFates.{offer_waits, await_waits}
 
 -- ---- tests of one act
 
@@ -79,27 +80,27 @@ offers_here f c p (Offer d q v w k) = is_at c p d q && f w
 offers_here f c p other = false
 
 value_settles : (w : WaitId) (a : Act) → settles_value w a ≡ true → settles_wait w a ≡ true
-value_settles w (Settle v outcome) e = (and_both (same_wait w v) (is_value outcome) e).0
+value_settles w (Settle v outcome) e = (and_parts (same_wait w v) (is_value outcome) e).0
 value_settles w other e = cc
 
 undelivered_settles : (w : WaitId) (a : Act) → settles_undelivered w a ≡ true → settles_wait w a ≡ true
-undelivered_settles w (Settle v outcome) e = (and_both (same_wait w v) (is_undelivered outcome) e).0
+undelivered_settles w (Settle v outcome) e = (and_parts (same_wait w v) (is_undelivered outcome) e).0
 undelivered_settles w other e = cc
 
 value_gives : (w : WaitId) (a : Act) → settles_value w a ≡ true → gives_value a ≡ true
-value_gives w (Settle v outcome) e = (and_both (same_wait w v) (is_value outcome) e).1
+value_gives w (Settle v outcome) e = (and_parts (same_wait w v) (is_value outcome) e).1
 value_gives w other e = cc
 
 undelivered_gives : (w : WaitId) (a : Act) → settles_undelivered w a ≡ true → gives_up a ≡ true
-undelivered_gives w (Settle v outcome) e = (and_both (same_wait w v) (is_undelivered outcome) e).1
+undelivered_gives w (Settle v outcome) e = (and_parts (same_wait w v) (is_undelivered outcome) e).1
 undelivered_gives w other e = cc
 
 value_given : (a : Act) → gives_value a ≡ true → (w : WaitId) × (settles_value w a ≡ true)
-value_given (Settle v outcome) e = (v, and_holds (same_wait v v) (is_value outcome) (same_wait-refl v) e)
+value_given (Settle v outcome) e = (v, and_from (same_wait v v) (is_value outcome) (same_wait-refl v) e)
 value_given other e = cc
 
 undelivered_given : (a : Act) → gives_up a ≡ true → (w : WaitId) × (settles_undelivered w a ≡ true)
-undelivered_given (Settle v outcome) e = (v, and_holds (same_wait v v) (is_undelivered outcome) (same_wait-refl v) e)
+undelivered_given (Settle v outcome) e = (v, and_from (same_wait v v) (is_undelivered outcome) (same_wait-refl v) e)
 undelivered_given other e = cc
 
 one_settled : (v w : WaitId) (a : Act) → settles_wait v a ≡ true → settles_wait w a ≡ true → v ≡ w
@@ -114,18 +115,10 @@ hand_resolves : (c p : ℕ) (act : Act) → hands c p act ≡ true → resolver 
 hand_resolves c p (Hand d q v) e = e
 hand_resolves c p other e = cc
 
-hand_answers : (c p : ℕ) (act : Act) → hands c p act ≡ true → answers c p act ≡ true
-hand_answers c p (Hand d q v) e = e
-hand_answers c p other e = cc
-
 answer_resolves : (c p : ℕ) (act : Act) → answers c p act ≡ true → resolver c p act ≡ true
 answer_resolves c p (Hand d q v) e = e
 answer_resolves c p (WakeClosed d q) e = e
 answer_resolves c p other e = cc
-
-await_names : (c p : ℕ) (act : Act) → awaits c p act ≡ true → (w : WaitId) × (places_wait c p act ≡ Some w)
-await_names c p (Await d q w k) e = (w, ap (λ b. if b then Some w else None) e)
-await_names c p other e = cc
 
 any_by : (f g : Act → Bool) → ((act : Act) → f act ≡ true → g act ≡ true) → (acts : List Act) → list_any f acts ≡ true
     → list_any g acts ≡ true
@@ -135,7 +128,7 @@ name_is : (w : WaitId) → name_of w.channel w.place ≡ w
 name_is w = same_wait-eq (name_of w.channel w.place) w (same_wait-refl w)
 
 here_offers : (f : WaitId → Bool) (c p : ℕ) (act : Act) → offers_here f c p act ≡ true → offers c p act ≡ true
-here_offers f c p (Offer d q v w k) e = (and_both (is_at c p d q) (f w) e).0
+here_offers f c p (Offer d q v w k) e = (and_parts (is_at c p d q) (f w) e).0
 here_offers f c p other e = cc
 
 -- ---- the one offer of a place
@@ -147,7 +140,8 @@ none_offered f c p acts e =
     omega arith
 
 not_offered : (c p : ℕ) (acts : List Act) → how_many (enters c p) acts ≡ 0 → list_any (offers c p) acts ≡ false
-not_offered c p acts e = is_false (list_any (offers c p) acts) (λ h. let n = any_count (offers c p) acts h in let b = enters_count c p acts
+not_offered c p acts e = false_from_ne_true (list_any (offers c p) acts) (λ h. let n = any_count (offers c p) acts h
+    in let b = enters_count c p acts
     in absurd (omega arith))
 
 -- what offers here, if at most one does
@@ -292,11 +286,11 @@ module _ (shape : Shape) (acts : List Act) (s : State) (k : Kept shape acts s) w
         q,
         r.0,
         r.1,
-        and_holds (is_at d q d q) (still acts w) (here d q) e,
+        and_from (is_at d q d q) (still acts w) (here d q) e,
         λ c p h. let m =
-            at_both c p d q (and_both (is_at c p d q) (still acts w) h).0 in (sym m.0, sym m.1),
+            at_both c p d q (and_parts (is_at c p d q) (still acts w) h).0 in (sym m.0, sym m.1),
       ))
-      (λ e c p. and_not (is_at c p d q) (still acts w) e)
+      (λ e c p. and_right (is_at c p d q) (still acts w) e)
   open_at other i = λ c p. refl
 
   pub open_sum : over shape (λ c p. cond (is_open_at acts c p) 1 0) ≡ how_many (offers_openly acts) acts
@@ -319,12 +313,12 @@ module _ (shape : Shape) (acts : List Act) (s : State) (k : Kept shape acts s) w
             let g = given a e in
             let x = k.given.handed g.0 (handed g.0 (i (test g.0) g.1)) in
             let r = handed_here x.0 x.1 x.3 in
-            (x.0, x.1, r.0, r.1, and_holds (list_any (hands x.0 x.1) acts) _ x.3 (ap (of_wait (λ w. test w a)) x.2 ∙ g.1), only g.0 g.1 x)
+            (x.0, x.1, r.0, r.1, and_from (list_any (hands x.0 x.1) acts) _ x.3 (ap (of_wait (λ w. test w a)) x.2 ∙ g.1), only g.0 g.1 x)
           where
             only : (w : WaitId) → test w a ≡ true → (x : HandPlace acts w) → (d q : ℕ) → handed_by test acts a d q ≡ true → (d ≡ x.0)
                 × (q ≡ x.1)
             only w f x d q h =
-                let b = and_both (list_any (hands d q) acts) (of_wait (λ w. test w a) (wait_at d q acts)) h in
+                let b = and_parts (list_any (hands d q) acts) (of_wait (λ w. test w a) (wait_at d q acts)) h in
                 let u = some_wait (λ w. test w a) (wait_at d q acts) b.1 in
                 let same : u.0 ≡ w = one_settled u.0 w a (within u.0 a u.2) (within w a f) in
                 k.traced.chosen.one d q x.0 x.1 w
@@ -332,10 +326,10 @@ module _ (shape : Shape) (acts : List Act) (s : State) (k : Kept shape acts s) w
                 (x.2, any_by (hands x.0 x.1) (resolver x.0 x.1) (hand_resolves x.0 x.1) acts x.3)
 
         nowhere : kind a ≡ false → AtOne (length shape) (places_at shape) (handed_by test acts a) false
-        nowhere e c p = is_false (handed_by test acts a c p)
+        nowhere e c p = false_from_ne_true (handed_by test acts a c p)
             (λ h. let u = some_wait (λ w. test w a) (wait_at c p acts)
-            (and_both (list_any (hands c p) acts) (of_wait (λ w. test w a) (wait_at c p acts)) h).1
-            in not_both (kind a) (gives u.0 a u.2) e)
+            (and_parts (list_any (hands c p) acts) (of_wait (λ w. test w a) (wait_at c p acts)) h).1
+            in both_ways (kind a) e (gives u.0 a u.2))
 
     test_once : (w : WaitId) → how_many (test w) acts ≤ 1
     test_once w = let a = count_less (test w) (settles_wait w) (within w) acts in omega (arith, k.settled_once w)
@@ -398,13 +392,13 @@ module _ (shape : Shape) (acts : List Act) (s : State) (k : Kept shape acts s) w
         w.place,
         r.0,
         r.1,
-        and_holds (list_any (withdraws (name_of w.channel w.place)) acts) _
+        and_from (list_any (withdraws (name_of w.channel w.place)) acts) _
             (ap (λ v. list_any (withdraws v) acts) (name_is w) ∙ e) (same_wait-refl w),
-        λ c p h. same_name c p w (and_both _ _ h).1,
+        λ c p h. same_name c p w (and_parts _ _ h).1,
       ))
-      (λ e c p. is_false _ (λ h. let b = and_both (list_any (withdraws (name_of c p)) acts) (same_wait (name_of c p) w) h
-      in not_both _ b.0 (ap (λ v. list_any (withdraws v) acts) (same_wait-eq (name_of c p) w b.1) ∙ e)))
-  settle_withdrawn_at other i = λ c p. and_not (list_any (withdraws (name_of c p)) acts) false refl
+      (λ e c p. false_from_ne_true _ (λ h. let b = and_parts (list_any (withdraws (name_of c p)) acts) (same_wait (name_of c p) w) h
+      in both_ways _ (ap (λ v. list_any (withdraws v) acts) (same_wait-eq (name_of c p) w b.1) ∙ e) b.0))
+  settle_withdrawn_at other i = λ c p. and_right (list_any (withdraws (name_of c p)) acts) false refl
 
   taken_at : (a : Act) → IsIn a acts → AtOne (length shape) (places_at shape) (λ c p. is_plain_offer acts (name_of c p)
       && withdraws (name_of c p) a) (takes_back acts a)
@@ -416,13 +410,13 @@ module _ (shape : Shape) (acts : List Act) (s : State) (k : Kept shape acts s) w
         w.place,
         r.0,
         r.1,
-        and_holds (is_plain_offer acts (name_of w.channel w.place)) _ (ap (is_plain_offer acts) (name_is w)
+        and_from (is_plain_offer acts (name_of w.channel w.place)) _ (ap (is_plain_offer acts) (name_is w)
             ∙ e) (same_wait-refl w),
-        λ c p h. same_name c p w (and_both _ _ h).1,
+        λ c p h. same_name c p w (and_parts _ _ h).1,
       ))
-      (λ e c p. is_false _ (λ h. let b = and_both (is_plain_offer acts (name_of c p)) (same_wait (name_of c p) w) h
-      in not_both _ b.0 (ap (is_plain_offer acts) (same_wait-eq (name_of c p) w b.1) ∙ e)))
-  taken_at other i = λ c p. and_not (is_plain_offer acts (name_of c p)) false refl
+      (λ e c p. false_from_ne_true _ (λ h. let b = and_parts (is_plain_offer acts (name_of c p)) (same_wait (name_of c p) w) h
+      in both_ways _ (ap (is_plain_offer acts) (same_wait-eq (name_of c p) w b.1) ∙ e) b.0))
+  taken_at other i = λ c p. and_right (is_plain_offer acts (name_of c p)) false refl
 
   -- ---- plain offers that were taken back
 
@@ -435,17 +429,17 @@ module _ (shape : Shape) (acts : List Act) (s : State) (k : Kept shape acts s) w
   back_is : (c p j : ℕ) → first_some (offers_at c p) acts ≡ Some j → (j == 0) ≡ true
       → is_taken_back c p acts ≡ list_any (withdraws (name_of c p)) acts
   back_is c p j e z =
-      let w = first_there (places_wait c p) (offers c p) (offer_names c p) acts (clause_offered c p j acts e) in
+      let w = first_there (places_wait c p) (offers c p) (offer_waits c p) acts (clause_offered c p j acts e) in
       let same = plain_name c p w.0 (e ∙ ap (λ x. Some x) (eqb-true j 0 z)) w.1 in
       by_withdrawn w.0 w.1 (list_any (withdraws w.0) acts) refl ∙ ap (λ v. list_any (withdraws v) acts) (sym same)
     where
       by_withdrawn : (w : WaitId) → wait_at c p acts ≡ Some w → (b : Bool) → list_any (withdraws w) acts ≡ b
           → is_taken_back c p acts ≡ list_any (withdraws w) acts
       by_withdrawn w f true h =
-          and_holds (not (list_any (admits c p) acts)) _ (ap not
-          (is_false _ (λ a. k.traced.chosen.apart c p w (f, admitted_resolved c p acts a) h)))
+          and_from (not (list_any (admits c p) acts)) _ (ap not
+          (false_from_ne_true _ (λ a. k.traced.chosen.apart c p w (f, admitted_resolved c p acts a) h)))
           (ap (of_wait (λ v. list_any (withdraws v) acts)) f ∙ h) ∙ sym h
-      by_withdrawn w f false h = and_not (not (list_any (admits c p) acts)) _ (ap (of_wait (λ v. list_any (withdraws v) acts)) f ∙ h)
+      by_withdrawn w f false h = and_right (not (list_any (admits c p) acts)) _ (ap (of_wait (λ v. list_any (withdraws v) acts)) f ∙ h)
           ∙ sym h
 
   taken_is : (c p : ℕ) → is_taken_offer acts c p ≡ (is_plain_offer acts (name_of c p) && list_any (withdraws (name_of c p)) acts)
@@ -495,7 +489,7 @@ module _ (shape : Shape) (acts : List Act) (s : State) (k : Kept shape acts s) w
 
     chosen_here : (c p : ℕ) (w : WaitId) → chosen_by acts (Settle w settled.Cancelled) c p ≡ true → Chosen acts c p w
     chosen_here c p w h =
-        let b = and_both _ _ h in
+        let b = and_parts _ _ h in
         let u = some_wait (λ v. same_wait v w) (wait_at c p acts) b.1 in
         (u.1 ∙ ap (λ v. Some v) (same_wait-eq u.0 w u.2), b.0)
 
@@ -506,23 +500,24 @@ module _ (shape : Shape) (acts : List Act) (s : State) (k : Kept shape acts s) w
     chosen_at (Settle w outcome) i =
         by_one_test (length shape) (places_at shape) (chosen_by acts (Settle w outcome)) (not (list_any (withdraws w) acts))
         (λ e. ⊎_elim
-        (λ h. absurd (not_both _ e (ap not h)))
+        (λ h. absurd (both_ways _ (ap not h) e))
         (λ x. let r = chosen_place x.0 x.1 w x.2 in (
           x.0,
           x.1,
           r.0,
           r.1,
-          and_holds (list_any (resolver x.0 x.1) acts) _ x.2.1 (ap (of_wait (λ v. same_wait v w)) x.2.0
+          and_from (list_any (resolver x.0 x.1) acts) _ x.2.1 (ap (of_wait (λ v. same_wait v w)) x.2.0
               ∙ same_wait-refl w),
           λ d q h. k.traced.chosen.one d q x.0 x.1 w (chosen_here d q w h) x.2,
         ))
         (k.traced.chosen.known w (k.traced.ended.resolved w (k.settled w (i (settles_wait w) (same_wait-refl w))))))
-        (λ e c p. is_false _ (λ h. by_withdrawn (list_any (withdraws w) acts) refl e (k.traced.chosen.apart c p w (chosen_here c p w h))))
+        (λ e c p. false_from_ne_true _ (λ h. by_withdrawn (list_any (withdraws w) acts) refl e
+        (k.traced.chosen.apart c p w (chosen_here c p w h))))
       where
         by_withdrawn : (b : Bool) → list_any (withdraws w) acts ≡ b → not b ≡ false → (list_any (withdraws w) acts ≡ true → ⊥) → ⊥
         by_withdrawn true e f h = h e
         by_withdrawn false e f h = cc
-    chosen_at other i = λ c p. and_not (list_any (resolver c p) acts) _ (wait_never (wait_at c p acts))
+    chosen_at other i = λ c p. and_right (list_any (resolver c p) acts) _ (wait_never (wait_at c p acts))
 
     pub chosen_sum : over shape (λ c p. cond (is_chosen_at acts c p) 1 0) ≡ how_many (settles_chosen acts) acts
     chosen_sum =
@@ -546,10 +541,10 @@ module _ (shape : Shape) (acts : List Act) (s : State) (k : Kept shape acts s) w
             let n = any_count (answers c p) acts e in
             let h = counted c p in
             let m : 1 ≤ how_many (awaits c p) acts = omega (arith, h.receivers) in
-            let w = first_there (places_wait c p) (awaits c p) (await_names c p) acts (count_any (awaits c p) acts m) in
+            let w = first_there (places_wait c p) (awaits c p) (await_waits c p) acts (count_any (awaits c p) acts m) in
             let r = any_by (answers c p) (resolver c p) (answer_resolves c p) acts e in
             let x = k.settles w.0 (rest w.0 (k.traced.chosen.resolved c p w.0 (w.1, r))) in
-            let a = counts_one (is_chosen_at acts c p) (and_holds (list_any (resolver c p) acts) _ r
+            let a = counts_one (is_chosen_at acts c p) (and_from (list_any (resolver c p) acts) _ r
             (ap (of_wait (λ v. list_any (settles_wait v) acts)) w.1 ∙ x)) in
             let o = not_offered c p acts (omega (arith, h.given)) in
             let b = counts_none (is_sent_at acts c p) (ap (λ y. y && is_chosen_at acts c p) o) in
@@ -562,13 +557,13 @@ module _ (shape : Shape) (acts : List Act) (s : State) (k : Kept shape acts s) w
           where
             offered_at : is_chosen_at acts c p ≡ true → list_any (offers c p) acts ≡ true
             offered_at h =
-                let b = and_both _ _ h in
+                let b = and_parts _ _ h in
                 let u = some_wait (λ v. list_any (settles_wait v) acts) (wait_at c p acts) b.1 in
                 let f = found (resolver c p) acts b.0 in
                 let g = counted c p in
                 let entered : 1 ≤ how_many (enters c p) acts =
                 ⊎_elim
-                (λ y. absurd (not_both _ (f.2 (answers c p) y) e))
+                (λ y. absurd (both_ways _ e (f.2 (answers c p) y)))
                 (λ z. ⊎_elim (λ y. let n = any_count (removes c p) acts (f.2 (removes c p) y)
                 in omega (arith, g.queue)) (λ y. g.admitted (f.2 (admits c p) y)) z)
                 (resolver_is c p f.0 f.1) in
@@ -581,5 +576,5 @@ module _ (shape : Shape) (acts : List Act) (s : State) (k : Kept shape acts s) w
                     in count_any (offers c p) acts (omega (arith, enters_count c p acts))
 
             by_chosen : (b : Bool) → is_chosen_at acts c p ≡ b → b ≡ (list_any (offers c p) acts && b)
-            by_chosen true h = sym (and_holds (list_any (offers c p) acts) true (offered_at h) refl)
-            by_chosen false h = sym (and_not (list_any (offers c p) acts) false refl)
+            by_chosen true h = sym (and_from (list_any (offers c p) acts) true (offered_at h) refl)
+            by_chosen false h = sym (and_right (list_any (offers c p) acts) false refl)

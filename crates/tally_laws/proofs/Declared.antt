@@ -2,7 +2,7 @@
 use Rattle.std.specs.Prelude.{◌≡◌, ℕ, zero, suc, ◌<◌, ◌≤◌, ◌==◌, Bool, true, false, ◌&&◌, cond, List, [], ◌∷◌, ◌++◌, length, Option, Some, None, refl, is_some, if◌then◌else◌}
 use Rattle.std.specs.List.{list_all}
 use Rattle.std.proofs.Common.{sym, ap, ◌∙◌, subst, arith, ⊎_elim}
-use Rattle.std.proofs.lemmas.Bool.{cases_lt}
+use Rattle.std.proofs.lemmas.Bool.{cases_lt, and_parts, both_ways}
 use Rattle.channel_model.specs.declared.acts.Act.{Act}
 use Rattle.channel_model.specs.declared.acts.Act.TheVariants.{Hand, Put, Offer}
 use Rattle.channel_model.specs.declared.acts.Entry.{Entry}
@@ -16,7 +16,6 @@ use Rattle.channel_model.specs.Needs.{Needs}
 use Rattle.channel_model.specs.Fates.{is_at, brings, element_at, fate_at, or_else}
 use Rattle.channel_model.specs.Histories.{replay, acts_in, Legal, LegalFrom}
 use Rattle.note_book.specs.declared.book.Item.{Item}
-use Rattle.channel_fates.proofs.AtMostOne.{and_both}
 use Rattle.channel_fates.proofs.OncePlaced.{at_both}
 use Rattle.tally_laws.specs.Counts.{Counts, counts_of}
 use Rattle.tally_laws.specs.Elements.{number_of, has_element, has_fate, places_where, AreSignals, AreFatesOf}
@@ -24,7 +23,6 @@ use Rattle.tally_laws.specs.Settlings.{ResolvedAreSettled, AreBooks}
 use Rattle.tally_laws.specs.Tallies.{tallied}
 use Rattle.tally_laws.specs.Sums.{sum_below}
 use Rattle.tally_laws.proofs.Summed.{sum_same, sum_none}
-use Rattle.tally_laws.proofs.Shares.{not_both}
 use Rattle.tally_laws.proofs.FatesOf.{fates_counted}
 use Rattle.tally_laws.proofs.Books.{books_counted}
 
@@ -68,14 +66,14 @@ no_element shape history c p l s = by_element (element_at c p (acts_in history))
   where
     by_element : (o : Option ℕ) → element_at c p (acts_in history) ≡ o → is_some o ≡ false
     by_element None e = refl
-    by_element (Some u) e = absurd (not_both _ s (element_kind shape start history c p u l e))
+    by_element (Some u) e = absurd (both_ways _ (element_kind shape start history c p u l e) s)
 
 -- ---- the shape behind the declared channels
 
 all_signals : (ys : Shape) (c : ℕ) → list_all (λ y. is_signal y.0) ys ≡ true → is_signal (kind_at ys c) ≡ true
 all_signals [] c h = refl
-all_signals (y ∷ ys) zero h = (and_both (is_signal y.0) (list_all (λ y. is_signal y.0) ys) h).0
-all_signals (y ∷ ys) (suc c) h = all_signals ys c (and_both (is_signal y.0) (list_all (λ y. is_signal y.0) ys) h).1
+all_signals (y ∷ ys) zero h = (and_parts (is_signal y.0) (list_all (λ y. is_signal y.0) ys) h).0
+all_signals (y ∷ ys) (suc c) h = all_signals ys c (and_parts (is_signal y.0) (list_all (λ y. is_signal y.0) ys) h).1
 
 rest_is_signal : (xs ys : Shape) (c : ℕ) → list_all (λ y. is_signal y.0) ys ≡ true → length xs ≤ c → is_signal (kind_at (xs ++ ys) c) ≡ true
 rest_is_signal [] ys c h l = all_signals ys c h

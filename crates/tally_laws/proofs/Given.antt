@@ -3,10 +3,10 @@
 use Rattle.std.specs.Prelude.{◌≡◌, ℕ, ◌+◌, ◌<◌, ◌≤◌, Bool, true, false, cond, List, [], ◌∷◌, ◌++◌, length, Option, Some, None, refl, ◌⊎◌, is_some, if◌then◌else◌}
 use Rattle.std.specs.List.{list_any}
 use Rattle.std.proofs.Common.{sym, ap, ◌∙◌, subst, arith, inl, inr, ⊎_elim, append_assoc}
-use Rattle.std.proofs.lemmas.Bool.{cases_lt}
+use Rattle.std.proofs.lemmas.Bool.{cases_lt, and_parts}
 use Rattle.co_base.specs.declared.names.WaitId.{WaitId}
 use Rattle.channel_model.specs.declared.acts.Act.{Act}
-use Rattle.channel_model.specs.declared.acts.Act.TheVariants.{Hand, Put, Offer, Await, Take, Admit, Drop, Spurn, Close, Void, Drain, WakeClosed, Withdraw, Settle}
+use Rattle.channel_model.specs.declared.acts.Act.TheVariants.{Hand, Put, Offer, Await, Take, Admit, Drop, Drain, WakeClosed, Withdraw, Settle}
 use Rattle.channel_model.specs.declared.acts.Entry.{Entry}
 use Rattle.channel_model.specs.declared.acts.Settled.{Settled}
 use Rattle.channel_model.specs.declared.acts.Settled.TheVariants as settled
@@ -28,13 +28,13 @@ use Rattle.channel_model.proofs.OwnWaits.{change_from}
 use Rattle.channel_model.proofs.Causes.{resolution_of, resolution_kept}
 use Rattle.channel_model.proofs.Resolutions.{resolves_turns, always_keeps}
 use Rattle.channel_model.proofs.Spans.{nothing_more}
-use Rattle.channel_fates.proofs.Appended.{any_kept, any_last, any_cases, count_last, first_kept, first_last}
-use Rattle.channel_fates.proofs.AtMostOne.{and_both}
+use Rattle.channel_fates.proofs.Appended.{any_kept, any_last, any_cases, first_kept, first_last}
 use Rattle.channel_fates.proofs.OncePlaced.{enters, awaits, at_both}
 use Rattle.channel_fates.proofs.StandsByActs.{here}
 use Rattle.channel_fates.proofs.Chosen.{source_of}
 use Rattle.channel_fates.proofs.ChosenOnce.{Told, told_after, start_told}
 use Rattle.channel_fates.proofs.Endings.{is_handed, handed_resolved}
+use Rattle.channel_model.proofs.Apart.{how_many_push}
 
 -- ---- places
 
@@ -75,8 +75,8 @@ placed_now shape s who other c p n h = absurd (omega arith)
 range_after : (shape : Shape) (acts : List Act) (s : State) (who : ℕ) (act : Act) → Needs shape s who act → GivenInRange shape acts
     → GivenInRange shape (acts ++ act ∷ [])
 range_after shape acts s who act n h c p l =
-    let a = count_last (enters c p) acts act in
-    let b = count_last (awaits c p) acts act in
+    let a = how_many_push (enters c p) acts act in
+    let b = how_many_push (awaits c p) acts act in
     ⊎_elim (λ k. h c p k) (λ k. placed_now shape s who act c p n (omega arith))
     (cases_lt 0 (how_many (enters c p) acts + how_many (awaits c p) acts))
 
@@ -111,14 +111,14 @@ settled_handed test k who outcome (Some x) n e = k outcome x.resolved n.2 e
 value_now : (shape : Shape) (s : State) (who : ℕ) (act : Act) (w : WaitId) → Needs shape s who act → settles_value w act ≡ true
     → WasHanded (s.waits w)
 value_now shape s who (Settle v outcome) w n e =
-    let k = and_both (same_wait w v) (is_value outcome) e in
+    let k = and_parts (same_wait w v) (is_value outcome) e in
     subst (λ u. WasHanded (s.waits u)) (sym (same_wait-eq w v k.0)) (settled_handed is_value given_value who outcome (s.waits v) n k.1)
 value_now shape s who other w n e = cc
 
 undelivered_now : (shape : Shape) (s : State) (who : ℕ) (act : Act) (w : WaitId) → Needs shape s who act → settles_undelivered w act ≡ true
     → WasHanded (s.waits w)
 undelivered_now shape s who (Settle v outcome) w n e =
-    let k = and_both (same_wait w v) (is_undelivered outcome) e in
+    let k = and_parts (same_wait w v) (is_undelivered outcome) e in
     subst (λ u. WasHanded (s.waits u)) (sym (same_wait-eq w v k.0))
     (settled_handed is_undelivered given_undelivered who outcome (s.waits v) n k.1)
 undelivered_now shape s who other w n e = cc
@@ -177,21 +177,18 @@ module _ (shape : Shape) (acts : List Act) (s : State) (t : Told acts s) where
       ⊎ HandPlace (acts ++ act ∷ []) w
   handed_from who (Hand c p v) w n h =
       ⊎_elim (λ e. inl (ap is_handed (sym e) ∙ h)) (λ e. inr (handed_now c p v w who n e)) (resolution_kept s who (Hand c p v) w)
-  handed_from who (Put c p v) w n h = inl h
   handed_from who (Offer c p v u k) w n h = inl (change_from WasHanded s.waits u w (name_clause who k c) (named_same who k c) h)
   handed_from who (Await c p u k) w n h = inl (change_from WasHanded s.waits u w (name_clause who k c) (named_same who k c) h)
   handed_from who (Take c p v) w n h = inl (offer_not w c (s.channels c).queue resolved.Taken s (λ k. refl) h)
   handed_from who (Admit c p) w n h = inl (holder_not w (holder_at p (s.channels c).queue) resolved.Admitted
       (with_queue c (admitted p (s.channels c).queue) s) (λ k. refl) h)
   handed_from who (Drop c p v) w n h = inl (removed_not w c (s.channels c).queue s h)
-  handed_from who (Spurn c p v) w n h = inl h
-  handed_from who (Close c v) w n h = inl h
-  handed_from who (Void c) w n h = inl h
   handed_from who (Drain c p v) w n h = inl (offer_not w c (s.channels c).queue (λ k. resolved.Voided) s (λ k. refl) h)
   handed_from who (WakeClosed c p) w n h = inl (first_not w (s.channels c).receivers _ s (λ k. refl) h)
   handed_from who (Withdraw u why) w n h = inl (change_from WasHanded s.waits u w (resolved_wait (resolved.Withdrawn why))
       (not_given (resolved.Withdrawn why) refl) h)
   handed_from who (Settle u outcome) w n h = inl (change_from WasHanded s.waits u w (settled_wait outcome) (settled_same outcome) h)
+  handed_from who other w n h = inl h
 
 -- ---- named waits
 

@@ -3,7 +3,7 @@ use Rattle.std.specs.Prelude.{◌≡◌, ℕ, zero, suc, ◌+◌, ◌<◌, ◌�
 use Rattle.std.specs.List.{list_any, fold, range_with_len}
 use Rattle.std.specs.Option.{option_or}
 use Rattle.std.proofs.Common.{sym, ap, ◌∙◌, arith}
-use Rattle.std.proofs.lemmas.Bool.{eqb-true}
+use Rattle.std.proofs.lemmas.Bool.{eqb-true, and_parts}
 use Rattle.channel_model.specs.Laws.{how_many}
 use Rattle.channel_fates.proofs.Appended.{none_count}
 use Rattle.job_model.specs.declared.acts.End.{End}
@@ -74,11 +74,7 @@ finish_at g r (Finish q end) = refl
 finish_at g r (Gone q) = and_false (r == q)
 
 finish_less : (g : End → Bool) (r : ℕ) (a : JobAct) → finishes_as g r a ≡ true → finishes r a ≡ true
-finish_less g r (Finish q end) e = by_row (r == q) e
-  where
-    by_row : (b : Bool) → (b && g end) ≡ true → b ≡ true
-    by_row true k = refl
-    by_row false k = k
+finish_less g r (Finish q end) e = (and_parts (r == q) _ e).0
 finish_less g r other e = cc
 
 -- where one act at most ends the Job of the row, as many end it so as its end says

@@ -3,7 +3,8 @@ use Rattle.std.specs.Prelude.{◌≡◌, ℕ, ◌==◌, ◌⊎◌, Bool, true, f
 use Rattle.std.specs.List.{list_any, fold, range_with_len}
 use Rattle.std.specs.Option.{option_or}
 use Rattle.std.proofs.Common.{ap, sym, ◌∙◌, inl, inr, ⊎_elim}
-use Rattle.std.proofs.lemmas.Bool.{eqb-true}
+use Rattle.std.proofs.lemmas.Bool.{eqb-true, or_right, and_right}
+use Rattle.std.proofs.Math.Bool.{or-false}
 use lib.Chars.{codes}
 use Rattle.job_model.specs.declared.acts.End.{End}
 use Rattle.job_model.specs.declared.acts.End.TheVariants as ends
@@ -40,12 +41,9 @@ new_cancellable s e = ap is_cancellable e
 end_behind_body : (v : ℕ) (s : JobState) (j : Job) (end : End) → end_by s j ≡ Some end
     → end_by (state_after_body s) (record j { body_ended = true; state = state_after_body s; value = value_after_body s v j.value }) ≡
     Some end
-end_behind_body v New j end e = cc
-end_behind_body v Active j end e = cc
-end_behind_body v Completing j end e = cc
-end_behind_body v Cancelling j end e = cc
 end_behind_body v Cancelled j end e = e
 end_behind_body v Completed j end e = e
+end_behind_body v other j end e = cc
 
 none_ends_yet : (s : JobState) (j : Job) (end other : End) → end_of s j ≡ Some end → end_by s j ≡ Some other → ⊥
 none_ends_yet New j end other m e = cc
@@ -53,12 +51,9 @@ none_ends_yet s j end other m e = cc
 
 -- the end of a Job is in its state, its cause and its value
 same_end : (s : JobState) (j k : Job) → k.cause ≡ j.cause → k.value ≡ j.value → end_by s k ≡ end_by s j
-same_end New j k c v = refl
-same_end Active j k c v = refl
-same_end Completing j k c v = refl
-same_end Cancelling j k c v = refl
 same_end Cancelled j k c v = ap (λ cause. Some (ends.Cancelled cause)) c
 same_end Completed j k c v = ap (λ value. Some (ends.Completed value)) v
+same_end other j k c v = refl
 
 end_lasts : (end : End) → Lasts (λ x. end_at x ≡ Some end)
 end_lasts end = record {
@@ -77,18 +72,10 @@ end_lasts end = record {
 -- a Job that finishes has ended as its Finish says
 finished_as : (who : ℕ) (end : End) (s : JobState) (j : Job) → end_of s j ≡ Some end
     → end_by (state_of_end end) (ended_by who end j) ≡ Some end
-finished_as who (ends.Completed v) New j e = cc
-finished_as who (ends.Completed v) Active j e = cc
 finished_as who (ends.Completed v) Completing j e = e
-finished_as who (ends.Completed v) Cancelling j e = cc
-finished_as who (ends.Completed v) Cancelled j e = cc
-finished_as who (ends.Completed v) Completed j e = cc
-finished_as who (ends.Cancelled cause) New j e = cc
-finished_as who (ends.Cancelled cause) Active j e = cc
-finished_as who (ends.Cancelled cause) Completing j e = cc
+finished_as who (ends.Completed v) other j e = cc
 finished_as who (ends.Cancelled cause) Cancelling j e = e
-finished_as who (ends.Cancelled cause) Cancelled j e = cc
-finished_as who (ends.Cancelled cause) Completed j e = cc
+finished_as who (ends.Cancelled cause) other j e = cc
 
 -- an act that ends the Job of a row is its Finish
 ends_by_finish : (r : ℕ) (act : JobAct) (end : End) → ends_as r act ≡ Some end → finishes r act ≡ true
@@ -101,15 +88,10 @@ ends_by_finish r other end e = cc
 
 step_ends : (shape : Shape) (tree : Tree) (who q : ℕ) (act : JobAct) (x y : Option Job) (end : End) → RowStep shape tree who q act x y
     → ends_as q act ≡ Some end → end_at y ≡ Some end
-step_ends shape tree who q _ _ _ end (RowStep.is_attached p kind tag cancelled m i) e = cc
-step_ends shape tree who q _ _ _ end (RowStep.has_child r kind tag cancelled j none m) e = cc
-step_ends shape tree who q _ _ _ end (RowStep.is_started j n) e = cc
-step_ends shape tree who q _ _ _ end (RowStep.body_ends v j m) e = cc
-step_ends shape tree who q _ _ _ end (RowStep.is_cancelled reason j m h) e = cc
 step_ends shape tree who q _ _ _ end (RowStep.ends other j m) e =
     finished_as who other j.state j m.2 ∙ sym (ap (λ b. if b then Some other else None) (same q)) ∙ e
-step_ends shape tree who q _ _ _ end (RowStep.is_told d j m p) e = cc
 step_ends shape tree who q _ _ _ end (RowStep.stays act x a b c d f) e = let k : false ≡ true = sym f ∙ ends_by_finish q act end e in cc
+step_ends shape tree who q _ _ _ end other e = cc
 
 -- each Finish of a row in a legal history says how its Job has ended
 ended_as : (shape : Shape) (tree : Tree) (es : List JobEntry) (r : ℕ) (act : JobAct) (end : End) → LegalFrom shape tree es
@@ -129,8 +111,7 @@ Shows lazy begun stopped bodiless New = (lazy ≡ true) × (begun ≡ false) × 
 Shows lazy begun stopped bodiless Active = ((lazy && not begun) ≡ false) × (stopped ≡ false) × (bodiless ≡ false)
 Shows lazy begun stopped bodiless Completing = (stopped ≡ false) × (bodiless ≡ true)
 Shows lazy begun stopped bodiless Cancelling = stopped ≡ true
-Shows lazy begun stopped bodiless Cancelled = Unit {0}
-Shows lazy begun stopped bodiless Completed = Unit {0}
+Shows lazy begun stopped bodiless other = Unit {0}
 
 abbrev ShowsRow : Bool → Bool → Bool → Bool → Option Job → Type 0
 ShowsRow lazy begun stopped bodiless None = (lazy ≡ false) × (begun ≡ false) × (stopped ≡ false) × (bodiless ≡ false)
@@ -145,8 +126,7 @@ text_shown New j o lazy begun stopped bodiless e h = rw (e, h.0, h.1, h.2, h.3) 
 text_shown Active j o lazy begun stopped bodiless e h = rw (e, h.0, h.1, h.2) refl
 text_shown Completing j o lazy begun stopped bodiless e h = rw (e, h.0, h.1) refl
 text_shown Cancelling j o lazy begun stopped bodiless e h = rw (e, h) refl
-text_shown Cancelled j o lazy begun stopped bodiless e h = rw e refl
-text_shown Completed j o lazy begun stopped bodiless e h = rw e refl
+text_shown other j o lazy begun stopped bodiless e h = rw e refl
 
 first_shown : (cancelled lazy : Bool) → Shows lazy false cancelled false (first_state cancelled lazy)
 first_shown true lazy = refl
@@ -158,17 +138,11 @@ body_shown : (s : JobState) (lazy begun stopped bodiless : Bool) → is_new s �
 body_shown New lazy begun stopped bodiless n h = cc
 body_shown Active lazy begun stopped bodiless n h = (h.1, refl)
 body_shown Completing lazy begun stopped bodiless n h = (h.0, refl)
-body_shown Cancelling lazy begun stopped bodiless n h = h
-body_shown Cancelled lazy begun stopped bodiless n h = h
-body_shown Completed lazy begun stopped bodiless n h = h
+body_shown other lazy begun stopped bodiless n h = h
 
 started_shown : (s : JobState) (lazy begun stopped bodiless : Bool) → s ≡ New → Shows lazy begun stopped bodiless s
     → Shows lazy true stopped bodiless Active
-started_shown New lazy begun stopped bodiless e h = (and_false lazy, h.2, h.3)
-  where
-    and_false : (b : Bool) → (b && false) ≡ false
-    and_false true = refl
-    and_false false = refl
+started_shown New lazy begun stopped bodiless e h = (and_right lazy false refl, h.2, h.3)
 started_shown Active lazy begun stopped bodiless e h = cc
 started_shown other lazy begun stopped bodiless e h = cc
 
@@ -180,14 +154,6 @@ ended_shown lazy begun stopped bodiless (ends.Cancelled cause) = tt
 abbrev ShowsAlso : ℕ → JobAct → Bool → Bool → Bool → Bool → Option Job → Type 0
 ShowsAlso r act lazy begun stopped bodiless x = ShowsRow (lazy || attaches_lazy r act) (begun || starts r act) (stopped
     || makes_cancelling r act) (bodiless || ends_body r act) x
-
-or_false : (b : Bool) → (b || false) ≡ b
-or_false true = refl
-or_false false = refl
-
-or_true : (b : Bool) → (b || true) ≡ true
-or_true true = refl
-or_true false = refl
 
 not_lazy : (r : ℕ) (act : JobAct) → attaches r act ≡ false → attaches_lazy r act ≡ false
 not_lazy r (Attach p q kind tag cancelled) e = ap (λ b. b && kind.lazy) e
@@ -203,7 +169,7 @@ unshown : (r : ℕ) (act : JobAct) (lazy begun stopped bodiless : Bool) (x : Opt
     → makes_cancelling r act ≡ false → ends_body r act ≡ false
     → ShowsRow lazy begun stopped bodiless x → ShowsAlso r act lazy begun stopped bodiless x
 unshown r act lazy begun stopped bodiless x l b s e h =
-    rw (l, b, s, e, or_false lazy, or_false begun, or_false stopped, or_false bodiless) h
+    rw (l, b, s, e, or-false lazy, or-false begun, or-false stopped, or-false bodiless) h
 
 row_shown : (shape : Shape) (tree : Tree) (who q : ℕ) (act : JobAct) (x y : Option Job) (lazy begun stopped bodiless : Bool)
     → RowStep shape tree who q act x y → tree q ≡ x
@@ -218,11 +184,13 @@ row_shown shape tree who q _ _ _ lazy begun stopped bodiless (RowStep.has_child 
     another true e = let k : Some j ≡ None = sym is ∙ ap tree (eqb-true q r e) ∙ none in cc
     another false e = refl
 row_shown shape tree who q _ _ _ lazy begun stopped bodiless (RowStep.is_started j n) is h =
-    rw (or_false lazy, or_false stopped, or_false bodiless, same q, or_true begun) (started_shown j.state lazy begun stopped bodiless n h)
+    rw (or-false lazy, or-false stopped, or-false bodiless, same q, or_right begun true refl)
+    (started_shown j.state lazy begun stopped bodiless n h)
 row_shown shape tree who q _ _ _ lazy begun stopped bodiless (RowStep.body_ends v j m) is h =
-    rw (or_false lazy, or_false begun, or_false stopped, same q, or_true bodiless) (body_shown j.state lazy begun stopped bodiless m.1 h)
+    rw (or-false lazy, or-false begun, or-false stopped, same q, or_right bodiless true refl)
+    (body_shown j.state lazy begun stopped bodiless m.1 h)
 row_shown shape tree who q _ _ _ lazy begun stopped bodiless (RowStep.is_cancelled reason j m o) is h = ap (λ b. stopped || b) (same q)
-    ∙ or_true stopped
+    ∙ or_right stopped true refl
 row_shown shape tree who q _ _ _ lazy begun stopped bodiless (RowStep.ends end j m) is h = ended_shown _ _ _ _ end
 row_shown shape tree who q _ _ _ lazy begun stopped bodiless (RowStep.is_told c j m p) is h =
     unshown q (Gone c) lazy begun stopped bodiless (Some j) refl refl refl refl h
@@ -239,7 +207,7 @@ shown_from : (shape : Shape) (tree : Tree) (es : List JobEntry) (r : ℕ) (lazy 
     → ShowsRow (lazy || list_any (attaches_lazy r) (acts_in es)) (begun || list_any (starts r) (acts_in es)) (stopped
     || list_any (makes_cancelling r) (acts_in es)) (bodiless || list_any (ends_body r) (acts_in es)) (replay_from tree es r)
 unfolding LegalFrom replay_from
-shown_from shape tree [] r lazy begun stopped bodiless l h = rw (or_false lazy, or_false begun, or_false stopped, or_false bodiless) h
+shown_from shape tree [] r lazy begun stopped bodiless l h = rw (or-false lazy, or-false begun, or-false stopped, or-false bodiless) h
 shown_from shape tree (x ∷ xs) r lazy begun stopped bodiless l h =
     rw (
       or_again lazy (attaches_lazy r x.act) (list_any (attaches_lazy r) (acts_in xs)),

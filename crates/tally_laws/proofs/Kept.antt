@@ -4,19 +4,20 @@ use Rattle.std.specs.List.{list_any}
 use Rattle.std.proofs.Common.{arith}
 use Rattle.co_base.specs.declared.names.WaitId.{WaitId}
 use Rattle.channel_model.specs.declared.acts.Act.{Act}
-use Rattle.channel_model.specs.declared.acts.Act.TheVariants.{Withdraw, Settle}
+use Rattle.channel_model.specs.declared.acts.Act.TheVariants.{Settle}
 use Rattle.channel_model.specs.declared.acts.Entry.{Entry}
 use Rattle.channel_model.specs.Channels.{Shape, State, same_wait, start}
 use Rattle.channel_model.specs.Effects.{after}
 use Rattle.channel_model.specs.Histories.{replay, acts_in, Legal}
 use Rattle.channel_model.specs.Answers.{IsSettledWait}
 use Rattle.channel_model.specs.Fates.{withdraws}
-use Rattle.channel_model.specs.Laws.{how_many, settles, resolves, one_if, settlements_of, resolutions_from}
+use Rattle.channel_model.specs.Laws.{how_many, settles, one_if, settlements_of, resolutions_from}
 use Rattle.channel_model.proofs.OneEntry.{settlements_of_bound, resolutions_of_bound, settled_by_one}
 use Rattle.channel_fates.proofs.Appended.{any_count, count_any}
 use Rattle.channel_fates.proofs.Traced.{Traced, replay_traced}
 use Rattle.tally_laws.specs.Kinds.{settles_wait}
 use Rattle.tally_laws.proofs.Given.{Given, replay_given}
+use Rattle.channel_fates.proofs.FourEntries.{withdraw_resolves}
 
 pub record Kept (shape : Shape) (acts : List Act) (s : State) : Type 0 where
   pub traced : Traced shape acts s
@@ -39,14 +40,10 @@ unfolding settlements_of
 settle_counts w [] = refl
 settle_counts w (e ∷ es) = let k = settle_counts w es in let a = settle_one w e.act in omega arith
 
-withdraw_one : (w : WaitId) (s : State) (a : Act) → cond (withdraws w a) 1 0 ≤ one_if w (resolves s a)
-withdraw_one w s (Withdraw v why) = let k = same_one (same_wait w v) in omega arith
-withdraw_one w s other = omega arith
-
 withdraw_counts : (w : WaitId) (s : State) (es : List Entry) → how_many (withdraws w) (acts_in es) ≤ resolutions_from w s es
 unfolding resolutions_from
 withdraw_counts w s [] = omega arith
-withdraw_counts w s (e ∷ es) = let k = withdraw_counts w (after s e.who e.act) es in let a = withdraw_one w s e.act in omega arith
+withdraw_counts w s (e ∷ es) = let k = withdraw_counts w (after s e.who e.act) es in let a = withdraw_resolves w s e.act in omega arith
 
 module _ (shape : Shape) (history : List Entry) (l : Legal shape history) where
   settled_in : (w : WaitId) → list_any (settles_wait w) (acts_in history) ≡ true → IsSettledWait ((replay history).waits w)

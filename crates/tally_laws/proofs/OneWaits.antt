@@ -3,13 +3,13 @@ use Rattle.std.specs.Prelude.{◌≡◌, ℕ, ◌+◌, Bool, true, false, ◌&&�
 use Rattle.std.specs.List.{list_any}
 use Rattle.std.proofs.Common.{sym, ap, ◌∙◌, subst, arith}
 use Rattle.std.proofs.Math.Bool.{or-true}
+use Rattle.std.proofs.lemmas.Bool.{and_parts}
 use Rattle.co_base.specs.declared.names.WaitId.{WaitId}
 use Rattle.channel_model.specs.declared.acts.Act.{Act}
 use Rattle.channel_model.specs.declared.acts.Act.TheVariants.{Offer, Await, Settle}
 use Rattle.channel_model.specs.Fates.{is_wait}
 use Rattle.channel_model.specs.Laws.{how_many}
 use Rattle.channel_model.proofs.Waits.{same_wait-eq, same_wait-refl}
-use Rattle.channel_fates.proofs.AtMostOne.{and_both}
 use Rattle.tally_laws.specs.Counts.{Counts, added}
 use Rattle.tally_laws.specs.Kinds.{settles_wait}
 use Rattle.tally_laws.specs.Tallies.{Tally, count_of, with_act, with_acts}
@@ -51,9 +51,9 @@ one_by_one o other acts = refl
 -- behind some acts, the next one fits
 pub fits_next : (o : Option WaitId) (xs : List Act) (a : Act) (ys : List Act) → has_one_wait o (xs ++ a ∷ ys) ≡ true
     → fits_wait (waits_after o xs) a ≡ true
-fits_next o [] a ys h = (and_both (fits_wait o a) (has_one_wait (wait_after o a) ys) (sym (one_by_one o a ys) ∙ h)).0
+fits_next o [] a ys h = (and_parts (fits_wait o a) (has_one_wait (wait_after o a) ys) (sym (one_by_one o a ys) ∙ h)).0
 fits_next o (x ∷ xs) a ys h = fits_next (wait_after o x) xs a ys
-    (and_both (fits_wait o x) (has_one_wait (wait_after o x) (xs ++ a ∷ ys)) (sym (one_by_one o x (xs ++ a ∷ ys)) ∙ h)).1
+    (and_parts (fits_wait o x) (has_one_wait (wait_after o x) (xs ++ a ∷ ys)) (sym (one_by_one o x (xs ++ a ∷ ys)) ∙ h)).1
 
 -- ---- counts that need no wait
 
@@ -89,9 +89,6 @@ SettledEnd ends acts = (w : WaitId) → list_any (settles_wait w) acts ≡ true 
 
 later : (ends : WaitId → Bool) (a : Act) (acts : List Act) → SettledEnd ends (a ∷ acts) → SettledEnd ends acts
 later ends a acts h w e = h w (ap (λ b. settles_wait w a || b) e ∙ or-true (settles_wait w a))
-
-same_of : (w u : WaitId) → is_wait w (Some u) ≡ true → w ≡ u
-same_of w u e = same_wait-eq w u e
 
 offered_then : (ends : WaitId → Bool) (o : Option WaitId) (w : WaitId) (n : ℕ) → OpenFits o n → may_name w o ≡ true
     → cond (ends w) (n + 1) 0 ≡ owed ends o n + cond (ends w) 1 0
@@ -130,17 +127,17 @@ pub ended_offers : (ends : WaitId → Bool) (o : Option WaitId) (t : Tally) (act
     → (with_acts t acts).counts.ended ≡ t.counts.ended + (owed ends o t.open_offers + how_many (offers_as ends) acts)
 ended_offers ends o t [] fits one se last = let k = none_owed ends o t.open_offers last in omega arith
 ended_offers ends o t (Offer c p v w k ∷ acts) fits one se last =
-    let b = and_both (may_name w o) (has_one_wait (Some w) acts) one in
+    let b = and_parts (may_name w o) (has_one_wait (Some w) acts) one in
     let r = ended_offers ends (Some w) (with_act t (Offer c p v w k)) acts tt b.1 (later ends (Offer c p v w k) acts se) last in
     let m = offered_then ends o w t.open_offers fits b.0 in
     omega arith
 ended_offers ends o t (Await c p w k ∷ acts) fits one se last =
-    let b = and_both (may_name w o) (has_one_wait (Some w) acts) one in
+    let b = and_parts (may_name w o) (has_one_wait (Some w) acts) one in
     let r = ended_offers ends (Some w) (with_act t (Await c p w k)) acts tt b.1 (later ends (Await c p w k) acts se) last in
     let m = awaited_then ends o w t.open_offers fits b.0 in
     omega arith
 ended_offers ends o t (Settle w outcome ∷ acts) fits one se last =
-    let b = and_both (is_wait w o) (has_one_wait None acts) one in
+    let b = and_parts (is_wait w o) (has_one_wait None acts) one in
     let r = ended_offers ends None (with_act t (Settle w outcome)) acts refl b.1 (later ends (Settle w outcome) acts se) last in
     let m = settled_then ends o w t.open_offers b.0 (se w (ap (λ x. x || list_any (settles_wait w) acts) (same_wait-refl w))) in
     omega arith

@@ -1,24 +1,15 @@
 -- How many acts of all callers pass a test, book by book.
-use Rattle.std.specs.Prelude.{◌≡◌, ◌≢◌, ℕ, ◌+◌, ◌<◌, ◌≤◌, ◌==◌, Bool, true, false, cond, List, [], ◌∷◌, length, map, refl, if◌then◌else◌, slice_index_or}
+use Rattle.std.specs.Prelude.{◌≡◌, ℕ, ◌+◌, ◌<◌, ◌≤◌, ◌==◌, Bool, true, false, cond, List, [], ◌∷◌, length, map, refl, if◌then◌else◌, slice_index_or}
 use Rattle.std.proofs.Common.{sym, ap, ◌∙◌, arith, ⊎_elim}
-use Rattle.std.proofs.lemmas.Bool.{eqb-true, eq-eqb, cases_lt}
+use Rattle.std.proofs.lemmas.Bool.{eq-eqb, cases_lt}
 use Rattle.channel_model.specs.Laws.{how_many}
 use Rattle.tally_laws.specs.Sums.{sum_below}
-use Rattle.tally_laws.proofs.Summed.{sum_add, sum_same, sum_none, sum_at}
-use Rattle.tally_laws.proofs.Summing.{sum_over, by_items, item_past}
+use Rattle.tally_laws.proofs.Summed.{sum_add, sum_same, sum_none}
+use Rattle.tally_laws.proofs.Summing.{sum_over, by_items, item_past, one_maker}
 use Rattle.tally_laws.proofs.SameMembers.{IsPart}
 
-both : (i j k l : ℕ) → i ≡ j → k ≡ l → i + k ≡ j + l
+pub both : (i j k l : ℕ) → i ≡ j → k ≡ l → i + k ≡ j + l
 both i j k l x y = omega arith
-
--- the sum over the callers of what only this one has
-one_maker : (b n who : ℕ) → who < n → sum_below (λ k. cond (who == k) b 0) n ≡ b
-one_maker b n who l =
-    sum_at (λ k. cond (who == k) b 0) n who l (λ i m a. by_test i (who == i) refl a) ∙ ap (λ t. cond t b 0) (eq-eqb who who refl)
-  where
-    by_test : (i : ℕ) (t : Bool) → (who == i) ≡ t → i ≢ who → ◌≡◌ {A = ℕ} (cond t b 0) 0
-    by_test i true e a = absurd (a (sym (eqb-true who i e)))
-    by_test i false e a = refl
 
 none_there : {A : Type 0} (a : A) (xs : List A) → a ∷ xs ≡ [] → ⊥
 none_there a xs e = cc

@@ -1,5 +1,5 @@
 -- How many acts there are of a kind, row by row.
-use Rattle.std.specs.Prelude.{◌≡◌, ◌≢◌, ℕ, ◌+◌, ◌<◌, ◌≤◌, ◌==◌, Bool, true, false, ◌&&◌, cond, List, [], ◌∷◌, refl}
+use Rattle.std.specs.Prelude.{◌≡◌, ◌≢◌, ℕ, ◌<◌, ◌≤◌, ◌==◌, Bool, true, false, ◌&&◌, cond, List, [], ◌∷◌, refl}
 use Rattle.std.proofs.Common.{ap, ◌∙◌, arith}
 use Rattle.std.proofs.lemmas.Bool.{eqb-true, eq-eqb}
 use Rattle.channel_model.specs.Laws.{how_many}
@@ -7,13 +7,11 @@ use Rattle.job_model.specs.declared.acts.JobAct.{JobAct}
 use Rattle.job_model.specs.Laws.{row_of_act}
 use Rattle.tally_laws.specs.Sums.{sum_below}
 use Rattle.tally_laws.proofs.Summed.{sum_add, sum_none, sum_at}
+use Rattle.tally_laws.proofs.Parted.{both}
 
 -- the act is of this kind, and of this row
 abbrev pub AtRow : (ℕ → JobAct → Bool) → (JobAct → Bool) → Type 0
 AtRow t kind = (r : ℕ) (a : JobAct) → t r a ≡ ((r == row_of_act a) && kind a)
-
-both : (i j k l : ℕ) → i ≡ j → k ≡ l → i + k ≡ j + l
-both i j k l x y = omega arith
 
 module _ (t : ℕ → JobAct → Bool) (kind : JobAct → Bool) (at : AtRow t kind) where
   at_own : (a : JobAct) → t (row_of_act a) a ≡ kind a

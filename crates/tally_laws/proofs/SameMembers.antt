@@ -2,7 +2,8 @@
 use Rattle.std.specs.Prelude.{◌≡◌, ℕ, zero, suc, ◌==◌, ◌⊎◌, Bool, true, false, ◌||◌, List, [], ◌∷◌, ◌++◌, map, refl, slice_index_or, if◌then◌else◌}
 use Rattle.std.specs.List.{list_any}
 use Rattle.std.proofs.Common.{ap, sym, ◌∙◌, subst, inl, inr, ⊎_elim}
-use Rattle.std.proofs.lemmas.Bool.{eq-eqb}
+use Rattle.std.proofs.lemmas.Bool.{eq-eqb, or_right}
+use Rattle.channel_model.proofs.Causes.{same_truth}
 
 -- x is one of these
 unfoldable pub Among : {A : Type 0} → A → List A → Type 0
@@ -29,19 +30,10 @@ pub among_any : {A : Type 0} (f : A → Bool) (xs : List A) (x : A) → Among x 
 unfolding Among
 among_any f [] x m e = absurd m
 among_any f (y ∷ ys) x m e = ⊎_elim (λ q. ap (λ b. b || list_any f ys) (ap f (sym q) ∙ e))
-    (λ n. or_true (f y) (list_any f ys) (among_any f ys x n e)) m
-  where
-    or_true : (a b : Bool) → b ≡ true → (a || b) ≡ true
-    or_true true b e = refl
-    or_true false b e = e
-
-same_tests : (a b : Bool) → (a ≡ true → b ≡ true) → (b ≡ true → a ≡ true) → a ≡ b
-same_tests true b f g = sym (f refl)
-same_tests false true f g = g refl
-same_tests false false f g = refl
+    (λ n. or_right (f y) (list_any f ys) (among_any f ys x n e)) m
 
 pub same_any : {A : Type 0} (xs ys : List A) → SameMembers xs ys → (f : A → Bool) → list_any f xs ≡ list_any f ys
-same_any xs ys same f = same_tests (list_any f xs) (list_any f ys)
+same_any xs ys same f = same_truth (list_any f xs) (list_any f ys)
     (λ h. let m = any_among f xs h in among_any f ys m.0 (same.to m.0 m.1) m.2)
     (λ h. let m = any_among f ys h in among_any f xs m.0 (same.back m.0 m.1) m.2)
 

@@ -2,29 +2,27 @@
 use Rattle.std.specs.Prelude.{◌≡◌, ℕ, ◌+◌, ◌≤◌, ◌==◌, nat_lt, Bool, true, false, not, ◌&&◌, ◌||◌, cond, List, Option, Some, None, refl, is_some, if◌then◌else◌}
 use Rattle.std.specs.List.{list_any}
 use Rattle.std.proofs.Common.{sym, ap, ◌∙◌, subst, arith, inl, inr, ⊎_elim}
-use Rattle.std.proofs.lemmas.Bool.{cases_lt}
+use Rattle.std.proofs.lemmas.Bool.{cases_lt, or_cases, and_parts, false_from_ne_true, and_from, and_right, or_right, both_ways}
 use Rattle.std.proofs.lemmas.Bool.Decides.{nat_tests}
-use Rattle.std.proofs.Math.Bool.{or-true}
 use Rattle.co_base.specs.declared.names.WaitId.{WaitId}
 use Rattle.channel_model.specs.declared.acts.Act.{Act}
-use Rattle.channel_model.specs.declared.acts.Act.TheVariants.{Hand, Put, Offer, Drain}
+use Rattle.channel_model.specs.declared.acts.Act.TheVariants.{Hand, Put, Offer}
 use Rattle.channel_model.specs.Channels.{Shape, State}
 use Rattle.channel_model.specs.Answers.{IsResolvedWait, IsSettledWait}
-use Rattle.channel_model.specs.Fates.{is_at, brings, hands, takes, admits, drops_at, spurns_at, drains, withdraws, settles_value, settles_undelivered, resolves_at, places_wait, offers_at, first_some, element_at, wait_at, is_wait, resolves_elsewhere, is_chosen_elsewhere, of_wait, of_offer, is_received, is_taken_back, is_undelivered_at, is_dropped, is_spurned, is_withdrawn}
+use Rattle.channel_model.specs.Fates.{is_at, brings, hands, takes, admits, drops_at, spurns_at, drains, withdraws, settles_value, settles_undelivered, places_wait, offers_at, first_some, element_at, wait_at, is_chosen_elsewhere, of_wait, of_offer, is_received, is_taken_back, is_undelivered_at, is_dropped, is_spurned, is_withdrawn}
 use Rattle.channel_model.specs.Laws.{how_many}
-use Rattle.channel_model.proofs.Waits.{same_wait-refl}
 use Rattle.channel_fates.proofs.Appended.{any_count, none_count, found, first_found, first_there}
 use Rattle.channel_fates.proofs.OncePlaced.{answers, Counted, at_both}
-use Rattle.channel_fates.proofs.StandsByActs.{puts, offers, came, enters_count, clause_offered, here}
-use Rattle.channel_fates.proofs.Chosen.{Chosen, resolver, this_place}
+use Rattle.channel_fates.proofs.StandsByActs.{puts, offers, came, enters_count, clause_offered, here, hand_answers}
+use Rattle.channel_fates.proofs.Chosen.{Chosen, resolver}
 use Rattle.channel_fates.proofs.ChosenOnce.{admitted_resolved}
-use Rattle.channel_fates.proofs.HeldWhileOpen.{offer_of}
 use Rattle.channel_fates.proofs.OwnPlaces.{alone, two_clauses}
 use Rattle.channel_fates.proofs.Traced.{Traced}
-use Rattle.channel_fates.proofs.AtMostOne.{or_either, and_both, some_wait, OtherEnd, undelivered_is, withdrawn_is, received_is, leaves_count, handed_or_left, handed_or_offered, resolved_here}
+use Rattle.channel_fates.proofs.AtMostOne.{some_wait, OtherEnd, undelivered_is, withdrawn_is, received_is, leaves_count, handed_or_left, handed_or_offered, resolved_here, drains_resolve, some_offer}
 use Rattle.tally_laws.specs.Kinds.{settles_wait}
 use Rattle.tally_laws.specs.Settlings.{ResolvedAreSettled}
 use Rattle.tally_laws.proofs.Counting.{any_one, count_less}
+use Rattle.channel_fates.proofs.HeldFates.{chosen_elsewhere, offer_waits, offer_clause}
 
 -- ---- words
 
@@ -55,39 +53,11 @@ or_sum true true h = absurd (h refl refl)
 or_sum true false h = omega arith
 or_sum false b h = omega arith
 
-pub is_false : (b : Bool) → (b ≡ true → ⊥) → b ≡ false
-is_false true h = absurd (h refl)
-is_false false h = refl
-
-pub and_holds : (a b : Bool) → a ≡ true → b ≡ true → (a && b) ≡ true
-and_holds true b e f = f
-and_holds false b e f = cc
-
-pub and_not : (a b : Bool) → b ≡ false → (a && b) ≡ false
-and_not true b e = e
-and_not false b e = refl
-
-or_second : (a b : Bool) → b ≡ true → (a || b) ≡ true
-or_second a b e = ap (λ x. a || x) e ∙ or-true a
-
-pub not_both : (b : Bool) → b ≡ true → b ≡ false → ⊥
-not_both b e f = cc
-
 pub counts_one : (b : Bool) → b ≡ true → ◌≡◌ {A = ℕ} (cond b 1 0) 1
 counts_one b e = ap (λ x. cond x 1 0) e
 
 pub counts_none : (b : Bool) → b ≡ false → ◌≡◌ {A = ℕ} (cond b 1 0) 0
 counts_none b e = ap (λ x. cond x 1 0) e
-
-offer_some : (f : ℕ → Bool) (o : Option ℕ) → of_offer f o ≡ true → (k : ℕ) × (o ≡ Some k) × (f k ≡ true)
-offer_some f None e = cc
-offer_some f (Some k) e = (k, refl, e)
-
-pub offer_says : (c p : ℕ) (act : Act) → offers c p act ≡ true → (k : ℕ) × (offers_at c p act ≡ Some k)
-offer_says c p act e = let o = offer_of c p act e in (o.2, ap (offers_at c p) o.3 ∙ ap (λ b. if b then Some o.2 else None) (here c p))
-
-pub offer_names : (c p : ℕ) (act : Act) → offers c p act ≡ true → (w : WaitId) × (places_wait c p act ≡ Some w)
-offer_names c p act e = let o = offer_of c p act e in (o.1, ap (places_wait c p) o.3 ∙ ap (λ b. if b then Some o.1 else None) (here c p))
 
 brought : (b : Bool) (v : ℕ) → b ≡ true → (x : ℕ) × ((if b then Some v else None) ≡ Some x)
 brought true v e = (v, refl)
@@ -105,22 +75,6 @@ offer_brings : (c p : ℕ) (act : Act) → offers c p act ≡ true → (v : ℕ)
 offer_brings c p (Offer d q v w k) e = brought (is_at c p d q) v e
 offer_brings c p other e = cc
 
-hand_is_answer : (c p : ℕ) (act : Act) → hands c p act ≡ true → answers c p act ≡ true
-hand_is_answer c p (Hand d q v) e = e
-hand_is_answer c p other e = cc
-
-drain_resolves : (c p : ℕ) (act : Act) → drains c p act ≡ true → resolver c p act ≡ true
-drain_resolves c p (Drain d q v) e = e
-drain_resolves c p other e = cc
-
-pub resolved_elsewhere : (acts : List Act) (c p d q : ℕ) (w : WaitId) → is_at c p d q ≡ false → Chosen acts d q w
-    → is_chosen_elsewhere c p w acts ≡ true
-resolved_elsewhere acts c p d q w e h =
-    let f = found (resolver d q) acts h.1 in
-    f.2 (λ a. resolves_elsewhere c p w acts (resolves_at a))
-    (ap (resolves_elsewhere c p w acts) (this_place d q (resolves_at f.0) f.1)
-    ∙ and_holds (not (is_at c p d q)) (is_wait w (wait_at d q acts)) (ap not e) (ap (is_wait w) h.0 ∙ same_wait-refl w))
-
 -- ---- one place
 
 module _ (shape : Shape) (acts : List Act) (s : State) (t : Traced shape acts s) (c p : ℕ) where
@@ -128,7 +82,7 @@ module _ (shape : Shape) (acts : List Act) (s : State) (t : Traced shape acts s)
   counted = t.told.counted c p
 
   hands_few : how_many (hands c p) acts ≤ how_many (answers c p) acts
-  hands_few = count_less (hands c p) (answers c p) (hand_is_answer c p) acts
+  hands_few = count_less (hands c p) (answers c p) (hand_answers c p) acts
 
   brought_once : how_many (hands c p) acts + (how_many (puts c p) acts + how_many (offers c p) acts) ≤ 1
   brought_once = let e = enters_count c p acts in omega (arith, hands_few, counted.receivers, counted.given)
@@ -179,7 +133,7 @@ module _ (shape : Shape) (acts : List Act) (s : State) (t : Traced shape acts s)
           (came c p v f.0 f.1)
       by_element None e =
           ⊎_elim
-          (λ l. let k = element_there l in let m : is_some (element_at c p acts) ≡ false = ap is_some e in absurd (not_both _ k m))
+          (λ l. let k = element_there l in let m : is_some (element_at c p acts) ≡ false = ap is_some e in absurd (both_ways _ m k))
           (λ l. omega arith)
           (cases_lt 0 (how_many (hands c p) acts + (how_many (puts c p) acts + how_many (offers c p) acts)))
 
@@ -214,17 +168,17 @@ module _ (shape : Shape) (acts : List Act) (s : State) (t : Traced shape acts s)
   -- ---- received, undelivered, dropped, spurned
 
   handed_test : (test : WaitId → Act → Bool) → is_handed_as test acts c p ≡ true → list_any (hands c p) acts ≡ true
-  handed_test test e = (and_both _ _ e).0
+  handed_test test e = (and_parts _ _ e).0
 
   taken_offer_is : is_taken_offer acts c p ≡ true → (k : ℕ) × (first_some (offers_at c p) acts ≡ Some k) × ((k == 0) ≡ true)
       × ((w : WaitId) × (wait_at c p acts ≡ Some w) × (list_any (withdraws w) acts ≡ true))
   taken_offer_is e =
-      let o = offer_some (λ k. (k == 0) && is_taken_back c p acts) (first_some (offers_at c p) acts) e in
-      let b = and_both _ _ o.2 in
-      (o.0, o.1, b.0, some_wait (λ w. list_any (withdraws w) acts) (wait_at c p acts) (and_both _ _ b.1).1)
+      let o = some_offer (λ k. (k == 0) && is_taken_back c p acts) (first_some (offers_at c p) acts) e in
+      let b = and_parts _ _ o.2 in
+      (o.0, o.1, b.0, some_wait (λ w. list_any (withdraws w) acts) (wait_at c p acts) (and_parts _ _ b.1).1)
 
   drained_resolved : list_any (drains c p) acts ≡ true → list_any (resolver c p) acts ≡ true
-  drained_resolved e = let f = found (drains c p) acts e in f.2 (resolver c p) (drain_resolves c p f.0 f.1)
+  drained_resolved e = let f = found (drains c p) acts e in f.2 (resolver c p) (drains_resolve c p f.0 f.1)
 
   pub received_share : cond (is_received c p acts) 1 0 ≡ how_many (takes c p) acts + cond (is_handed_as settles_value acts c p) 1 0
   received_share =
@@ -243,7 +197,7 @@ module _ (shape : Shape) (acts : List Act) (s : State) (t : Traced shape acts s)
       (λ e m. ⊎_elim
       (λ h. let n = any_count (drains c p) acts e in handed_or_left shape acts s t c p (handed_test settles_undelivered h) (omega arith))
       (λ o. let x = taken_offer_is o in resolved_here shape acts s t c p x.3.0 x.3.1 (drained_resolved e) (inl x.3.2))
-      (or_either _ _ m)) in
+      (or_cases _ _ m)) in
       omega arith
 
   pub dropped_share : cond (is_dropped c p acts) 1 0 ≡ how_many (drops_at c p) acts
@@ -287,8 +241,8 @@ module _ (shape : Shape) (acts : List Act) (s : State) (t : Traced shape acts s)
       -- not answered here, and withdrawn
       taken_back_here : list_any (resolver c p) acts ≡ false → list_any (withdraws w) acts ≡ true → is_taken_back c p acts ≡ true
       taken_back_here r e =
-          and_holds (not (list_any (admits c p) acts)) _ (ap not
-          (is_false (list_any (admits c p) acts) (λ a. not_both _ (admitted_resolved c p acts a) r)))
+          and_from (not (list_any (admits c p) acts)) _ (ap not
+          (false_from_ne_true (list_any (admits c p) acts) (λ a. both_ways _ r (admitted_resolved c p acts a))))
           (ap (of_wait (λ v. list_any (withdraws v) acts)) named ∙ e)
 
       withdrawn_by : nat_lt 0 k ≡ true → (is_taken_back c p acts
@@ -297,10 +251,10 @@ module _ (shape : Shape) (acts : List Act) (s : State) (t : Traced shape acts s)
       withdrawn_by l h =
           ap (of_offer (λ j. nat_lt 0 j && (is_taken_back c p acts
           || (not (list_any (admits c p) acts) && of_wait (λ v. is_chosen_elsewhere c p v acts) (wait_at c p acts))))) clause
-          ∙ and_holds (nat_lt 0 k) _ l h
+          ∙ and_from (nat_lt 0 k) _ l h
 
       taken_by : (k == 0) ≡ true → is_taken_back c p acts ≡ true → is_taken_offer acts c p ≡ true
-      taken_by z h = ap (of_offer (λ j. (j == 0) && is_taken_back c p acts)) clause ∙ and_holds (k == 0) _ z h
+      taken_by z h = ap (of_offer (λ j. (j == 0) && is_taken_back c p acts)) clause ∙ and_from (k == 0) _ z h
 
       -- withdrawn or taken back, one of the two, where its wait had another end
       ended_otherwise : list_any (resolver c p) acts ≡ false → OtherEnd c p acts w
@@ -310,12 +264,12 @@ module _ (shape : Shape) (acts : List Act) (s : State) (t : Traced shape acts s)
           (λ l.
           let m : nat_lt 0 k ≡ true = grind (arith, nat_tests) in
           let a = counts_one (is_withdrawn c p acts) (withdrawn_by m (select_end o)) in
-          let b = counts_none (is_taken_offer acts c p) (is_false _ (select_not_taken m)) in
+          let b = counts_none (is_taken_offer acts c p) (false_from_ne_true _ (select_not_taken m)) in
           omega arith)
           (λ l.
           let z : k ≡ 0 = omega arith in
           let m : (k == 0) ≡ true = ap (λ j. j == 0) z in
-          let a = counts_none (is_withdrawn c p acts) (is_false _ (plain_not_withdrawn m)) in
+          let a = counts_none (is_withdrawn c p acts) (false_from_ne_true _ (plain_not_withdrawn m)) in
           let b = counts_one (is_taken_offer acts c p) (taken_by m (plain_end z o)) in
           omega arith)
           (cases_lt 0 k)
@@ -326,9 +280,9 @@ module _ (shape : Shape) (acts : List Act) (s : State) (t : Traced shape acts s)
               ⊎_elim
               (λ e. ap (λ b. b || (not (list_any (admits c p) acts) && of_wait (λ v. is_chosen_elsewhere c p v acts) (wait_at c p acts)))
               (taken_back_here r e))
-              (λ x. or_second (is_taken_back c p acts) _ (and_holds (not (list_any (admits c p) acts)) _
-              (ap not (is_false (list_any (admits c p) acts) (λ a. not_both _ (admitted_resolved c p acts a) r)))
-              (ap (of_wait (λ v. is_chosen_elsewhere c p v acts)) named ∙ resolved_elsewhere acts c p x.0 x.1 w x.2 x.3)))
+              (λ x. or_right (is_taken_back c p acts) _ (and_from (not (list_any (admits c p) acts)) _
+              (ap not (false_from_ne_true (list_any (admits c p) acts) (λ a. both_ways _ r (admitted_resolved c p acts a))))
+              (ap (of_wait (λ v. is_chosen_elsewhere c p v acts)) named ∙ chosen_elsewhere acts c p x.0 x.1 w x.2 x.3)))
               o
 
           plain_end : k ≡ 0 → OtherEnd c p acts w → is_taken_back c p acts ≡ true
@@ -337,8 +291,8 @@ module _ (shape : Shape) (acts : List Act) (s : State) (t : Traced shape acts s)
               (λ e. taken_back_here r e)
               (λ x.
               let m = alone acts s t.own c p x.0 x.1 w (clause ∙ ap (λ j. Some j) z) named x.3.0 in
-              absurd (not_both _ (here c p) (subst (λ d. is_at c p d p ≡ false) (sym m.0)
-              (subst (λ q. is_at c p x.0 q ≡ false) (sym m.1) x.2))))
+              absurd (both_ways _ (subst (λ d. is_at c p d p ≡ false) (sym m.0)
+              (subst (λ q. is_at c p x.0 q ≡ false) (sym m.1) x.2)) (here c p)))
               o
 
       open_is : (b : Bool) → list_any (settles_wait w) acts ≡ b
@@ -357,21 +311,22 @@ module _ (shape : Shape) (acts : List Act) (s : State) (t : Traced shape acts s)
               → 1 ≡ cond (is_withdrawn c p acts) 1 0 + (cond (is_taken_offer acts c p) 1 0 +
               (cond (is_chosen_at acts c p) 1 0 + cond (of_wait (λ v. not (list_any (settles_wait v) acts)) (wait_at c p acts)) 1 0))
           by_tests false r e f =
-              let no : IsResolvedWait (s.waits w) → ⊥ = λ h. not_both _ (settles w (rest w h)) e in
-              let a = counts_none (is_withdrawn c p acts) (is_false _ (λ h. no (withdrawn_resolved w named h))) in
-              let b = counts_none (is_taken_offer acts c p) (is_false _ (λ h. no (taken_resolved w named h))) in
-              let x = counts_none (is_chosen_at acts c p) (and_not (list_any (resolver c p) acts) _ (chosen_is false e)) in
+              let no : IsResolvedWait (s.waits w) → ⊥ = λ h. both_ways _ e (settles w (rest w h)) in
+              let a = counts_none (is_withdrawn c p acts) (false_from_ne_true _ (λ h. no (withdrawn_resolved w named h))) in
+              let b = counts_none (is_taken_offer acts c p) (false_from_ne_true _ (λ h. no (taken_resolved w named h))) in
+              let x = counts_none (is_chosen_at acts c p) (and_right (list_any (resolver c p) acts) _ (chosen_is false e)) in
               let y = counts_one _ (open_is false e) in
               omega arith
           by_tests true true e f =
-              let a = counts_none (is_withdrawn c p acts) (is_false _ (withdrawn_not_here f)) in
-              let b = counts_none (is_taken_offer acts c p) (is_false _ (taken_not_here f)) in
-              let x = counts_one (is_chosen_at acts c p) (and_holds (list_any (resolver c p) acts) _ f (chosen_is true e)) in
+              let a = counts_none (is_withdrawn c p acts) (false_from_ne_true _ (withdrawn_not_here f)) in
+              let b = counts_none (is_taken_offer acts c p) (false_from_ne_true _ (taken_not_here f)) in
+              let x = counts_one (is_chosen_at acts c p) (and_from (list_any (resolver c p) acts) _ f (chosen_is true e)) in
               let y = counts_none _ (open_is true e) in
               omega arith
           by_tests true false e f =
               let h = t.ended.resolved w (settled w e) in
-              let o : OtherEnd c p acts w = ⊎_elim (λ k. inl k) (λ x. inr (x.0, x.1, is_false _ (λ at. not_here x.0 x.1 at x.2), x.2))
+              let o : OtherEnd c p acts w = ⊎_elim (λ k. inl k) (λ x. inr
+              (x.0, x.1, false_from_ne_true _ (λ at. not_here x.0 x.1 at x.2), x.2))
               (t.chosen.known w h) in
               let a = ended_otherwise f o in
               let x = counts_none (is_chosen_at acts c p) (ap (λ b. b
@@ -382,8 +337,8 @@ module _ (shape : Shape) (acts : List Act) (s : State) (t : Traced shape acts s)
               not_here : (d q : ℕ) → is_at c p d q ≡ true → Chosen acts d q w → ⊥
               not_here d q at x =
                   let m = at_both c p d q at in
-                  not_both _ (subst (λ j. list_any (resolver c j) acts ≡ true) m.1
-                  (subst (λ j. list_any (resolver j q) acts ≡ true) m.0 x.1)) f
+                  both_ways _ f (subst (λ j. list_any (resolver c j) acts ≡ true) m.1
+                  (subst (λ j. list_any (resolver j q) acts ≡ true) m.0 x.1))
 
     -- an offer was withdrawn or taken back, or its wait was resolved at it, or is not settled
     pub offered_share : how_many (offers c p) acts ≡ cond (is_withdrawn c p acts) 1 0 +
@@ -397,16 +352,16 @@ module _ (shape : Shape) (acts : List Act) (s : State) (t : Traced shape acts s)
 
         by_test : (b : Bool) → list_any (offers c p) acts ≡ b → Shared b
         by_test true e =
-            let w = first_there (places_wait c p) (offers c p) (offer_names c p) acts e in
-            let k = first_there (offers_at c p) (offers c p) (offer_says c p) acts e in
+            let w = first_there (places_wait c p) (offers c p) (offer_waits c p) acts e in
+            let k = first_there (offers_at c p) (offers c p) (offer_clause c p) acts e in
             let n = any_count (offers c p) acts e in
             let m = brought_once in
             let h = named_share w.0 k.0 w.1 k.1 in
             omega arith
         by_test false e =
             let n = none_count (offers c p) acts e in
-            let a = counts_none (is_withdrawn c p acts) (is_false _ (λ h. let o = withdrawn_is c p acts h
-            in not_both _ (clause_offered c p o.0 acts o.1) e)) in
-            let b = counts_none (is_taken_offer acts c p) (is_false _ (λ h. let o = taken_offer_is h
-            in not_both _ (clause_offered c p o.0 acts o.1) e)) in
+            let a = counts_none (is_withdrawn c p acts) (false_from_ne_true _ (λ h. let o = withdrawn_is c p acts h
+            in both_ways _ e (clause_offered c p o.0 acts o.1))) in
+            let b = counts_none (is_taken_offer acts c p) (false_from_ne_true _ (λ h. let o = taken_offer_is h
+            in both_ways _ e (clause_offered c p o.0 acts o.1))) in
             omega arith

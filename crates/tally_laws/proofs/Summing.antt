@@ -42,7 +42,7 @@ later_nobody n e es h k l = by_test (e.who == k) (h k l)
     by_test true x = absurd (none_there e.act (acts_of k es) x)
     by_test false x = x
 
-one_maker : (b : ℕ) (n who : ℕ) → who < n → sum_below (λ k. cond (who == k) b 0) n ≡ b
+pub one_maker : (b : ℕ) (n who : ℕ) → who < n → sum_below (λ k. cond (who == k) b 0) n ≡ b
 one_maker b n who l =
     sum_at (λ k. cond (who == k) b 0) n who l (λ i m a. by_test i (who == i) refl a) ∙ ap (λ t. cond t b 0) (same_number who)
   where

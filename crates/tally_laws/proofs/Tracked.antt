@@ -2,7 +2,7 @@
 use Rattle.std.specs.Prelude.{◌≡◌, ◌≢◌, ℕ, ◌+◌, ◌≤◌, ◌==◌, Bool, true, false, ◌||◌, cond, List, [], ◌∷◌, ◌++◌, Option, Some, None, MatchBool, refl, ◌⊎◌, is_some, if◌then◌else◌}
 use Rattle.std.specs.List.{list_any}
 use Rattle.std.proofs.Common.{sym, ap, ◌∙◌, subst, arith, inl, inr, ⊎_elim, append_assoc}
-use Rattle.std.proofs.lemmas.Bool.{eqb-true}
+use Rattle.std.proofs.lemmas.Bool.{eqb-true, false_from_ne_true, both_ways}
 use Rattle.std.proofs.lemmas.Bool.Decides.{nat_tests}
 use Rattle.std.proofs.Math.Bool.{or-true}
 use Rattle.co_base.specs.declared.names.WaitId.{WaitId}
@@ -23,7 +23,7 @@ use Rattle.channel_model.proofs.OwnWaits.{ComesFrom, act_from}
 use Rattle.channel_model.proofs.Resolutions.{always_keeps, settles_turns}
 use Rattle.channel_model.proofs.Spans.{nothing_more}
 use Rattle.channel_model.proofs.Waits.{same_wait-eq, same_wait-refl, at_wait, one_change}
-use Rattle.channel_fates.proofs.Appended.{any_cases, any_count, count_last, first_kept, first_last}
+use Rattle.channel_fates.proofs.Appended.{any_cases, any_count, first_kept, first_last}
 use Rattle.channel_fates.proofs.OncePlaced.{awaits, counted_after}
 use Rattle.channel_fates.proofs.StandsByActs.{offers, enters_count, clause_offered, offer_here, here}
 use Rattle.channel_fates.proofs.Chosen.{wait_counted}
@@ -32,9 +32,10 @@ use Rattle.tally_laws.specs.Tallies.{Tally, empty, with_act, tally_of}
 use Rattle.tally_laws.specs.Settlings.{may_name, has_one_wait}
 use Rattle.tally_laws.proofs.Given.{HasBegun, begun_stays}
 use Rattle.tally_laws.proofs.Kept.{Kept, replay_kept}
-use Rattle.tally_laws.proofs.Shares.{is_false, not_both, counts_one}
+use Rattle.tally_laws.proofs.Shares.{counts_one}
 use Rattle.tally_laws.proofs.ByKind.{own_wait}
 use Rattle.tally_laws.proofs.OneWaits.{wait_after, waits_after, fits_wait, wait_last, act_last, fits_next}
+use Rattle.channel_model.proofs.Apart.{how_many_push}
 
 -- how many plain offers the wait has that a caller has
 abbrev plain_in : List Act → Option WaitId → ℕ
@@ -62,8 +63,8 @@ module _ (shape : Shape) (acts : List Act) (s : State) (k : Kept shape acts s) (
   nothing_offered c p l None f = refl
   nothing_offered c p l (Some j) f =
       let x = counts_one (offers c p act) (offer_here c p j act f) in
-      let a = count_last (offers c p) acts act in
-      let b = count_last (awaits c p) acts act in
+      let a = how_many_push (offers c p) acts act in
+      let b = how_many_push (awaits c p) acts act in
       let e = enters_count c p (acts ++ act ∷ []) in
       let g = (counted_after shape acts s maker act n k.traced.told.counted c p).given in
       absurd (omega arith)
@@ -158,7 +159,7 @@ module _ (shape : Shape) (who : ℕ) (acts : List Act) (s : State) (k : Kept sha
   back_then : (act : Act) → Needs shape s who act → takes_back (acts ++ act ∷ []) act ≡ false
       → how_many (takes_back acts) mine ≡ how_many (takes_back (acts ++ act ∷ [])) (mine ++ act ∷ [])
   back_then act n e =
-      let a = count_last (takes_back (acts ++ act ∷ [])) mine act in
+      let a = how_many_push (takes_back (acts ++ act ∷ [])) mine act in
       let b = back_stays shape acts s k who act n mine h.known in
       let f : ◌≡◌ {A = ℕ} (cond (takes_back (acts ++ act ∷ []) act) 1 0) 0 = ap (λ x. cond x 1 0) e in
       omega arith
@@ -170,7 +171,10 @@ module _ (shape : Shape) (who : ℕ) (acts : List Act) (s : State) (k : Kept sha
 
   joins_unsettled : (j c : ℕ) (x : Option Wait) → JoinsWait who j c x → IsUnsettledOf who x × ((j == 0) ≡ false)
   joins_unsettled j c None m = absurd m
-  joins_unsettled j c (Some x) m = ((m.own, m.unsettled), is_false (j == 0) (λ e. let z = eqb-true j 0 e in let l = m.low in omega arith))
+  joins_unsettled j c (Some x) m = (
+    (m.own, m.unsettled),
+    false_from_ne_true (j == 0) (λ e. let z = eqb-true j 0 e in let l = m.low in omega arith),
+  )
 
   nothing_yet : (w : WaitId) (x : Option WaitId) → o ≡ x → may_name w x ≡ true → s.waits w ≡ None → x ≡ None
   nothing_yet w None e f z = refl
@@ -248,7 +252,7 @@ module _ (shape : Shape) (who : ℕ) (acts : List Act) (s : State) (k : Kept sha
           by_end : (ending : Option Settled) → (is_some ending ≡ true → is_some x.resolved ≡ true) → ending ≡ None
           by_end None r = refl
           by_end (Some y) r = let a : is_some x.resolved ≡ true = r refl in let b : is_some x.resolved ≡ false = ap is_some m.1
-              in absurd (not_both _ a b)
+              in absurd (both_ways _ b a)
 
   -- an act that is none of the four leaves the wait and the plain offers
   own_tracked : (act : Act) → Needs shape s who act → fits_wait o act ≡ true
@@ -284,7 +288,7 @@ module _ (shape : Shape) (who : ℕ) (acts : List Act) (s : State) (k : Kept sha
         has = λ x y. own_keeps shape who x s (Withdraw w why) n (λ outcome z. cc) (h.has x y);
         plain = h.plain ∙ sym (plain_stays shape acts s k who (Withdraw w why) n o has_begun);
         back =
-            let a = count_last (takes_back (acts ++ Withdraw w why ∷ [])) mine (Withdraw w why) in
+            let a = how_many_push (takes_back (acts ++ Withdraw w why ∷ [])) mine (Withdraw w why) in
             let d = back_stays shape acts s k who (Withdraw w why) n mine h.known in
             let g : t.plain_offers ≡ cond (is_plain_offer acts w) 1 0 = h.plain ∙ ap (plain_in acts) e in
             let i : ◌≡◌ {A = ℕ} (cond (is_plain_offer (acts ++ Withdraw w why ∷ []) w) 1 0) (cond (is_plain_offer acts w) 1 0) =
@@ -307,7 +311,7 @@ module _ (shape : Shape) (who : ℕ) (acts : List Act) (s : State) (k : Kept sha
 
       settled_not : (x : Option Wait) → IsSettledWait x → IsUnsettledOf who x → ⊥
       settled_not None a b = a
-      settled_not (Some x) a b = let d : is_some x.settled ≡ false = ap is_some b.1 in not_both _ a d
+      settled_not (Some x) a b = let d : is_some x.settled ≡ false = ap is_some b.1 in both_ways _ d a
 
       settled_now : (x : WaitId) → IsUnsettledOf who ((after s who (Settle w outcome)).waits x) → ⊥
       settled_now x u =
@@ -376,7 +380,7 @@ module _ (shape : Shape) (who : ℕ) where
       l = Legal-last shape es e legal
 
       not_who : (e.who == who) ≡ false → e.who ≢ who
-      not_who q m = let x : (e.who == who) ≡ true = grind (arith, nat_tests) in not_both _ x q
+      not_who q m = let x : (e.who == who) ≡ true = grind (arith, nat_tests) in both_ways _ q x
 
       by_test : (b : Bool) → (e.who == who) ≡ b → TrackedAfter who (es ++ e ∷ [])
       by_test true q =

@@ -17,7 +17,7 @@ use Rattle.script_grammar.specs.Programs.{Program}
 use Rattle.script_grammar.specs.Tags.{coroutine_count}
 use Rattle.script_grammar.proofs.Truths.{lt-from_true, le-from_lt_false}
 use Rattle.script_meaning.specs.declared.stage.Stage.{Stage}
-use Rattle.script_meaning.specs.declared.stage.Stage.TheVariants.{Fresh, Running, Waiting, SeesJob, Unwinding, Leaving, SeesScope, Ended}
+use Rattle.script_meaning.specs.declared.stage.Stage.TheVariants.{Fresh, Waiting, Leaving, Ended}
 use Rattle.script_meaning.specs.Shapes.{floor_shape}
 use Rattle.script_meaning.specs.Configs.{Config}
 use Rattle.script_meaning.specs.Books.{book_at, BooksOf}
@@ -41,13 +41,10 @@ the_wait k w v s h u = subst (λ z. IsOpenOf k (s.waits z)) (sym (h.only w u)) h
 left_open : (k : ℕ) (x : Config) (book : List Item) (s : State) (jobs : List JobEntry) (w : WaitId) (stage : Stage)
     → IsLeft k x book s jobs stage → (book ≡ [] → ⊥) → IsUnsettledOf k (s.waits w) → IsOpenOf k (s.waits w)
 left_open k x book s jobs w Fresh h noted u = absurd (noted h.1)
-left_open k x book s jobs w Running h noted u = absurd h
 left_open k x book s jobs w (Waiting v) h noted u = the_wait k w v s h.0 u
-left_open k x book s jobs w SeesJob h noted u = absurd h
-left_open k x book s jobs w (Unwinding failure) h noted u = absurd h
 left_open k x book s jobs w (Leaving v) h noted u = the_wait k w v s h u
-left_open k x book s jobs w SeesScope h noted u = absurd h
 left_open k x book s jobs w Ended h noted u = absurd (h.1 w u)
+left_open k x book s jobs w other h noted u = absurd h
 
 pub none_lost : (p : Program) (books : List (List Item)) (channels : List Entry) (jobs : List JobEntry) (of : BooksOf p books channels jobs)
     (root : Option End) → IsIdle p books channels jobs of root → (w : WaitId) → IsResolvedWait ((replay channels).waits w)

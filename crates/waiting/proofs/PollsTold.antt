@@ -21,16 +21,13 @@ module _ {T : Type 0} where
 
   pub step_told : (hub : ParcelHub T) (at : WaitId) (p q : ParcelPass T) (s : ParcelSettled T) (r : Polled T) → Ended hub at p q s
       → PolledAs s r → ReceiveStep (Some at) hub p q r
-  step_told hub at p q s (polled.Value x) h e = subst (Ended hub at p q) e h
-  step_told hub at p q s (polled.Closed c) h e = subst (Ended hub at p q) e h
   step_told hub at p q s (polled.Fault f) h e = (s, h, e.0, e.1)
   step_told hub at p q s (polled.Waits w) h e = absurd e
+  step_told hub at p q s other h e = subst (Ended hub at p q) e h
 
   pub held_told : (hub : ParcelHub T) (q : ParcelPass T) (s : ParcelSettled T) (r : Polled T) → PolledAs s r → HeldAfter hub q r
-  held_told hub q s (polled.Value x) e = tt
-  held_told hub q s (polled.Closed c) e = tt
-  held_told hub q s (polled.Fault f) e = tt
   held_told hub q s (polled.Waits w) e = absurd e
+  held_told hub q s other e = tt
 
   pub flush_told : (hub : ParcelHub T) (at : WaitId) (p q : ParcelPass T) (s : ParcelSettled T) (r : Flushed T) → Ended hub at p q s
       → FlushedAs s r → FlushStep (Some at) hub p q r

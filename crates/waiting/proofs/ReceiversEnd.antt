@@ -115,14 +115,12 @@ module _ {T : Type 0} where
 
   pub received_so : (shape : Shape) (parcels who : ℕ) (w : WaitId) (v u : Seen T) (a e : Floor) (s : ParcelSettled T) → Legal shape e.seen
       → AwaitsOn who w a → EndsAsleep parcels who w v u a e s → IsReceived s
-  received_so shape parcels who w v u a e (settled.Value x) l k h = tt
   received_so shape parcels who w v u a e settled.Sent l k h =
       let s = h.settled.0 in never_sent shape who s.0 w a h.ready e l k h.looked s.1
-  received_so shape parcels who w v u a e (settled.Closed c) l k h = tt
   received_so shape parcels who w v u a e (settled.Cancelled (Some x)) l k h =
       let s = h.settled.1 in never_cancelled shape who w a h.ready e l k h.looked s.0
   received_so shape parcels who w v u a e (settled.Cancelled None) l k h =
       let s = h.settled.0 in never_cancelled shape who w a h.ready e l k h.looked s.0
   received_so shape parcels who w v u a e (settled.Undelivered x) l k h =
       never_undelivered shape who h.settled.0 w a h.ready e l k h.looked h.settled.1
-  received_so shape parcels who w v u a e settled.Lost l k h = tt
+  received_so shape parcels who w v u a e other l k h = tt

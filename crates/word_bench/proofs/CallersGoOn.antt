@@ -10,9 +10,8 @@ use Rattle.channel_model.specs.Answers.{TriedOfferAnswer, TriedGotAnswer, AdmitA
 pub try_offer_callers : (who c v : ℕ) (a b : Floor) (r : TriedOffer) → TriedOfferAnswer who c v a b r → b.callers ≡ a.callers
 try_offer_callers who c v a b (offered.Handed p t) h = h.made.same.callers
 try_offer_callers who c v a b (offered.Put p) h = h.same.callers
-try_offer_callers who c v a b offered.Full h = h.0.same.callers
 try_offer_callers who c v a b (offered.Closed x) h = h.looked.same.callers
-try_offer_callers who c v a b offered.Spent h = h.0.same.callers
+try_offer_callers who c v a b other h = h.0.same.callers
 
 pub try_got_callers : (who c : ℕ) (a b : Floor) (r : TriedGot) → TriedGotAnswer who c a b r → b.callers ≡ a.callers
 try_got_callers who c a b (got.Taken p v t) h = h.made.same.callers

@@ -60,17 +60,12 @@ await_held who c p a b l m =
 
 module _ (who c : ℕ) (a b : Floor) (pass : Pass) (seen : b.seen ≡ (seen_by pass).seen) (l : Legal b.shape b.seen) where
   pub offer_begins : (v : ℕ) (r : Offered) → OfferAnswer who c v a b r → BeginsOffer who c pass r
-  offer_begins v (offered.Handed p t) h = tt
-  offer_begins v (offered.Put p) h = tt
   offer_begins v (offered.Held p) h = subst (λ es. OffersPlainly who (spot c p) (replay es)) seen (offer_plain who c p v a b l h.0)
-  offer_begins v (offered.Closed x) h = tt
-  offer_begins v offered.Spent h = tt
+  offer_begins v other h = tt
 
   pub wait_begins : (r : Got) → GotAnswer who c a b r → BeginsWait who c pass r
-  wait_begins (got.Taken p v t) h = tt
   wait_begins (got.Waiting p) h = subst (λ es. IsUnsettledOf who ((replay es).waits (spot c p))) seen (await_held who c p a b l h)
-  wait_begins (got.Closed x) h = tt
-  wait_begins got.Spent h = tt
+  wait_begins other h = tt
 
 -- ---- an offer goes on to wait
 

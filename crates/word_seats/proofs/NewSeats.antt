@@ -1,10 +1,9 @@
 -- Seats that are split off, one by one.
 use Rattle.std.specs.Prelude.{◌≡◌, ℕ, ◌+◌, ◌/◌, ◌%◌, ◌==◌, ◌<◌, Bool, true, false, List, [], ◌∷◌, ◌++◌, length, if◌then◌else◌, refl}
-use Rattle.std.proofs.Common.{ap, sym, ◌∙◌, subst, arith, length-append, ne_eqb}
+use Rattle.std.proofs.Common.{ap, sym, ◌∙◌, arith, length-append, ne_eqb}
 use Rattle.joined_words.proofs.PartsOfLists.{tag_place}
 use Rattle.std.proofs.lemmas.Bool.{eqb-true}
 use Rattle.channel_model.specs.Histories.{acts_of}
-use Rattle.channel_model.specs.Floors.{Floor as ChannelFloor}
 use Rattle.job_model.specs.Floors.{Floor}
 use Rattle.worded.specs.Views.{has_tag}
 use Rattle.joined_words.specs.Parts.{tag_in, tags_in}

@@ -1,5 +1,5 @@
 -- What two seats of one table know when the one has heard the other.
-use Rattle.std.specs.Prelude.{◌≡◌, ℕ, suc, Bool, true, false, List, [], ◌∷◌, length, refl}
+use Rattle.std.specs.Prelude.{◌≡◌, ℕ, suc, false, List, [], ◌∷◌, length, refl}
 use Rattle.std.proofs.Common.{ap, sym, ◌∙◌, arith}
 use mathlib.Core.List.{IsPrefix}
 use Rattle.co_base.specs.Orders.{channel_entries_in, job_entries_in}
@@ -24,7 +24,7 @@ use Rattle.word_rules.specs.Orders.{sides_of}
 use Rattle.word_rules.specs.Words as cells
 use Rattle.cell_words.specs.declared.hub.Hub.{Hub}
 use Rattle.cell_words.specs.declared.pass.Pass.{Pass}
-use Rattle.cell_words.specs.Seen.{Known, NobodyUngiven, on_channels}
+use Rattle.cell_words.specs.Seen.{on_channels}
 use Rattle.cell_calls.specs.HubFloors.{hub_floor}
 use Rattle.job_words.specs.declared.pass.JobPass.{JobPass}
 use Rattle.job_words.specs.Passes.{floor_seen}

@@ -27,7 +27,7 @@ or_true false = refl
 
 -- ---- what is at a place of a list
 
-below_length : {A : Type 0} (l : List A) (i : ℕ) (a : A) → get_elem? l i ≡ some a → i < length l
+pub below_length : {A : Type 0} (l : List A) (i : ℕ) (a : A) → get_elem? l i ≡ some a → i < length l
 below_length [] i a e = absurd (some-ne-none a (sym e))
 below_length (x ∷ xs) zero a e = omega arith
 below_length (x ∷ xs) (suc i) a e = let h = below_length xs i a e in omega arith
@@ -37,7 +37,7 @@ at_longer [] x a i e = absurd (some-ne-none a (sym e))
 at_longer (y ∷ ys) x a zero e = e
 at_longer (y ∷ ys) x a (suc i) e = at_longer ys x a i e
 
-at_last : {A : Type 0} (l : List A) (x : A) → get_elem? (l ++ x ∷ []) (length l) ≡ some x
+pub at_last : {A : Type 0} (l : List A) (x : A) → get_elem? (l ++ x ∷ []) (length l) ≡ some x
 at_last [] x = refl
 at_last (y ∷ ys) x = at_last ys x
 

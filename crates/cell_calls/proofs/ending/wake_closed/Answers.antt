@@ -6,10 +6,11 @@ use Rattle.cell_words.specs.Seen.{tags_given}
 use Rattle.cell_words.specs.Answers.{Wakes}
 use Rattle.cell_words.proofs.LooksAtCells.{hub_legal, below_seen, sees_then}
 use Rattle.cell_calls.specs.HubFloors.{hub_floor}
-use Rattle.cell_calls.proofs.CallsTell.{too_far, same_floor, seen_of, woken_of, closed_seen, not_open}
+use Rattle.cell_calls.proofs.CallsTell.{too_far, same_floor, seen_of, woken_of, not_open}
 use Rattle.cell_calls.proofs.PlacesPassed.{woken_past}
 use Rattle.cell_calls.proofs.ending.wake_closed.Goals.{in-Waiting+in-None-wake, in-Gone}
 use Rattle.cell_calls.proofs.ending.wake_closed.Goals as goal
+use Rattle.cell_words.proofs.ReceiversOfClosedChannels.{closed_seen}
 
 pub unreachable-requires : goal.unreachable-requires
 unreachable-requires c = not_open (shape_of c.args.hub.now) c.args.c (seen_by c.args.pass.now) (seen_by c.find_closed.new.pass)

@@ -4,9 +4,10 @@ use Rattle.channel_model.specs.Answers.{StandsWithRoom}
 use Rattle.cell_words.specs.Hubs.{shape_of, seen_by}
 use Rattle.cell_words.proofs.LooksAtCells.{hub_legal, sees_then}
 use Rattle.cell_words.proofs.OffersBefore.{room_before, room_where_none, too_many_seen}
-use Rattle.cell_calls.proofs.CallsTell.{sees_self, made_of, seen_of}
+use Rattle.cell_calls.proofs.CallsTell.{made_of, seen_of}
 use Rattle.cell_calls.proofs.KeepingTells.{nobody_waits, own_put_given, own_put_within, later_given, not_the_end}
 use Rattle.cell_calls.proofs.keeping.spurn.Goals as goal
+use Rattle.cell_words.proofs.WalksToAdmit.{sees_self}
 
 pub returns-then-not-spurns_latest-clause-answer : goal.returns-then-not-spurns_latest-clause-answer
 returns-then-not-spurns_latest-clause-answer c =

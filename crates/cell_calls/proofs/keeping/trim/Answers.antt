@@ -7,11 +7,12 @@ use Rattle.cell_words.specs.Hubs.{shape_of, seen_by}
 use Rattle.cell_words.specs.Answers.{RemovesFrom}
 use Rattle.cell_words.specs.Seen.{at_channel}
 use Rattle.cell_words.proofs.LooksAtCells.{hub_legal, sees_then, given_seen, below_seen}
-use Rattle.cell_calls.proofs.CallsTell.{sees_self, made_of, seen_of}
+use Rattle.cell_calls.proofs.CallsTell.{made_of, seen_of}
 use Rattle.cell_calls.proofs.PlacesPassed.{removed_past}
 use Rattle.cell_calls.proofs.KeepingTells.{trimmed_ever, trimmed_empty, trimmed_below, nobody_waits, put_seen, own_put_given, own_put_within}
 use Rattle.cell_calls.proofs.keeping.trim.Goals.{in-Kept+else-not-is_over+else-remove_kept, in-Gone}
 use Rattle.cell_calls.proofs.keeping.trim.Goals as goal
+use Rattle.cell_words.proofs.WalksToAdmit.{sees_self}
 
 pub returns-then-not-drops_oldest-clause-answer : goal.returns-then-not-drops_oldest-clause-answer
 returns-then-not-drops_oldest-clause-answer c = seen_of c.args.hub.now c.args.who c.args.pass.now c.args.pass.now

@@ -4,9 +4,9 @@ use Rattle.channel_model.specs.declared.floor.WaitState.TheVariants as state
 use Rattle.cell_words.specs.Hubs.{shape_of, seen_by}
 use Rattle.cell_words.proofs.LooksAtCells.{hub_legal}
 use Rattle.cell_calls.specs.Registrations.{IsOwnMain}
-use Rattle.cell_calls.proofs.CallsTell.{sees_self}
 use Rattle.cell_calls.proofs.WaitsOfSelects.{main_stands, main_resolved, no_main}
 use Rattle.cell_calls.proofs.registering.is_resolved.Goals as goal
+use Rattle.cell_words.proofs.WalksToAdmit.{sees_self}
 
 pub returns-in-None-clause-sees : goal.returns-in-None-clause-sees
 returns-in-None-clause-sees c = sees_self (seen_by c.args.pass.now)

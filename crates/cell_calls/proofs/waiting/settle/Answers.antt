@@ -1,7 +1,8 @@
 use Rattle.cell_words.specs.Hubs.{shape_of, seen_by}
 use Rattle.cell_words.proofs.LooksAtCells.{hub_legal}
-use Rattle.cell_calls.proofs.CallsTell.{sees_self, made_of, ready_place}
+use Rattle.cell_calls.proofs.CallsTell.{made_of, ready_place}
 use Rattle.cell_calls.proofs.waiting.settle.Goals as goal
+use Rattle.cell_words.proofs.WalksToAdmit.{sees_self}
 
 pub settle_at-requires-clause-at : goal.settle_at-requires-clause-at
 settle_at-requires-clause-at c = (

@@ -1,8 +1,9 @@
 use Rattle.std.proofs.Common.{refl}
 use Rattle.cell_words.specs.Hubs.{shape_of, seen_by}
 use Rattle.cell_words.proofs.LooksAtCells.{hub_legal}
-use Rattle.cell_calls.proofs.CallsTell.{sees_self, looked_of, made_of, wait_place}
+use Rattle.cell_calls.proofs.CallsTell.{looked_of, made_of, wait_place}
 use Rattle.cell_calls.proofs.waiting.withdraw.Goals as goal
+use Rattle.cell_words.proofs.WalksToAdmit.{sees_self}
 
 pub withdraw_at-requires-clause-at : goal.withdraw_at-requires-clause-at
 withdraw_at-requires-clause-at c = (

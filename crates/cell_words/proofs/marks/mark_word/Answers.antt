@@ -1,12 +1,13 @@
 use Rattle.std.proofs.Common.{length, ap, arith}
 use Rattle.channel_model.specs.Channels.{Shape}
 use Rattle.cell_words.specs.Hubs.{shape_of}
-use Rattle.cell_words.proofs.OneNumberOneWord.{number_within, few_channels}
+use Rattle.cell_words.proofs.OneNumberOneWord.{number_within}
 use Rattle.cell_words.proofs.marks.mark_word.Goals as goal
+use Rattle.cell_words.proofs.OnTheFirstPart.{channels_few}
 
 pub overflow_mul-result-2 : goal.overflow_mul-result-2
 overflow_mul-result-2 c =
-    let h = few_channels (shape_of c.args.hub.now) in
+    let h = channels_few (shape_of c.args.hub.now) in
     let w = c.args.hub.now.sized.few in
     let n = c.len.ensures in
     let k = ap (λ (s : Shape). length s) c.args.hub.now.sized.same in
@@ -14,7 +15,7 @@ overflow_mul-result-2 c =
 
 pub overflow_add-result : goal.overflow_add-result
 overflow_add-result c =
-    let h = few_channels (shape_of c.args.hub.now) in
+    let h = channels_few (shape_of c.args.hub.now) in
     let w = c.args.hub.now.sized.few in
     let n = c.len.ensures in
     let k = ap (λ (s : Shape). length s) c.args.hub.now.sized.same in
@@ -23,7 +24,7 @@ overflow_add-result c =
 
 pub overflow_add-result-2 : goal.overflow_add-result-2
 overflow_add-result-2 c =
-    let h = few_channels (shape_of c.args.hub.now) in
+    let h = channels_few (shape_of c.args.hub.now) in
     let w = c.args.hub.now.sized.few in
     let n = c.len.ensures in
     let k = ap (λ (s : Shape). length s) c.args.hub.now.sized.same in
