@@ -1,8 +1,11 @@
+mod Below
 mod Beside
 mod DiagramTexts
 mod Documents
+mod Elements
 mod Fields
 mod JsonTexts
 mod Labels
 mod Placing
+mod Rests
 mod Shows

@@ -55,7 +55,7 @@ pub told_above : (column : ℕ) (ds : List Drawn) → StandFrom 0 ds → EndsAbo
 told_above column ds stand = subst (λ row. EndsAbove column row ds) (omega arith) (above_from column 0 ds stand)
 
 -- the first of a list, and the others
-split_off : {A : Type 0} (xs : List A) (d : A) → 1 ≤ length xs → xs ≡ get_or xs 0 d ∷ take (length xs - 1) (drop 1 xs)
+pub split_off : {A : Type 0} (xs : List A) (d : A) → 1 ≤ length xs → xs ≡ get_or xs 0 d ∷ take (length xs - 1) (drop 1 xs)
 split_off [] d some = absurd (omega arith)
 split_off (x ∷ xs) d some = ap (λ l. x ∷ l) (sym (take_all (length (x ∷ xs) - 1) xs (omega arith)))
 
@@ -73,3 +73,24 @@ pub kept_rest : (p : Told → Bool) (kept kept' : List Told) (rest : List Line) 
 kept_rest p kept kept' rest d all some more so_far =
     kept_more p kept kept' (told (get_or rest 0 d)) (told_lines (take (length rest - 1) (drop 1 rest))) all more
     (ap (λ r. kept ++ filter p (told_lines r)) (sym (split_off rest d some)) ∙ so_far)
+
+-- ---- a line was added
+
+pub columns_pushed : (tags : List ℕ) (ds ds' : List Drawn) (d : Drawn) (line : Line) (column : ℕ) → ds' ≡ ds ++ d ∷ [] → d.line ≡ line
+    → d.column ≡ column → column_of tags line.said ≡ Some column → is_target tags d.target ≡ true → StandInColumns tags ds
+    → StandInColumns tags ds'
+columns_pushed tags ds ds' d line column more is at here target stand =
+    subst (StandInColumns tags) (sym more)
+    (columns_more tags ds d stand (ap (λ l. column_of tags l.said) is ∙ here ∙ ap (λ n. Some n) (sym at)) target)
+
+pub order_pushed : (ds ds' slice : List Drawn) (d : Drawn) (column row : ℕ) → ds' ≡ ds ++ d ∷ [] → slice ≡ ds → d.column ≡ column
+    → d.row ≡ row → EndsAbove column row slice → StandInOrder ds → StandInOrder ds'
+order_pushed ds ds' slice d column row more lent at in_row above stand =
+    let above_column : EndsAbove d.column row slice = subst (λ k. EndsAbove k row slice) (sym at) above in
+    let above_line : EndsAbove d.column d.row slice = subst (λ r. EndsAbove d.column r slice) (sym in_row) above_column in
+    subst StandInOrder (sym more) (order_more ds d stand (subst (EndsAbove d.column d.row) lent above_line))
+
+pub rows_pushed : (as_told : Bool) (ds ds' slice : List Drawn) (d : Drawn) (row : ℕ) → ds' ≡ ds ++ d ∷ [] → slice ≡ ds → d.row ≡ row
+    → (as_told ≡ true → row ≡ length slice) → (as_told ≡ true → StandFrom 0 ds) → as_told ≡ true → StandFrom 0 ds'
+rows_pushed as_told ds ds' slice d row more lent in_row is stand told =
+    subst (StandFrom 0) (sym more) (rows_more ds d (stand told) (in_row ∙ is told ∙ ap (λ xs. length xs) lent))

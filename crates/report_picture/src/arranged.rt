@@ -1,6 +1,6 @@
 //! The lines of a picture, arranged.
 
-ghost use Rattle.std.specs.Prelude.{◌≡◌, IfOk, filter, false, true};
+ghost use Rattle.std.specs.Prelude.{◌≡◌, IfOk, OnOk, filter, false, true};
 ghost use Rattle.report_reader.specs.Reading.{told_lines};
 ghost use Rattle.report_picture.specs.Order.{AreOrdered, StandBelow, StandFrom};
 ghost use Rattle.report_picture.specs.Pictures.{StandInColumns, StandInOrder, is_drawn, lines_in};
@@ -11,9 +11,9 @@ use crate::columns::Wanted;
 use crate::notes::Note;
 use crate::order::order_of;
 use crate::picture::Drawn;
-use crate::placed::{drawn_in, is_drawn};
-use crate::presumed::sources_in;
-use crate::sources::{Sources, all_stand_below};
+use crate::placed::{draw_all, is_drawn};
+use crate::presumed::{is_seen, sources_in, standing_of};
+use crate::sources::{Standing, all_stand_below};
 use crate::told::BookLines;
 use co_base::Memory;
 use gathered::{Gathered, filled, put};
@@ -54,13 +54,24 @@ impl Books<'_, '_> {
     }
 }
 
+/// Where each line of the books stands.
+fn standings_in(alloc: Global, books: Books) -> Result<Vec<Standing>, AllocError> {
+    let mut standings = Gathered::new(alloc);
+    let mut next = 0usize;
+    for (number, note) in books.told.notes.as_slice().iter().enumerate() {
+        let is_drawn = books.is_drawn(note);
+        standings.add(standing_of(is_drawn, next, number));
+        next = next.saturating_add(usize::from(is_drawn));
+    }
+    standings.whole()
+}
+
 /// Gives each line its row, and answers the row behind the last.
-fn give_rows(rows: &mut Vec<u32>, books: Books, numbers: &[usize]) -> u32 {
+fn give_rows(rows: &mut Vec<u32>, standings: &[Standing], numbers: &[usize]) -> u32 {
     let mut end = 0u32;
     for number in numbers {
         put(rows, *number, end);
-        let is_drawn = books.is_drawn(&books.told.note(*number));
-        end = end.saturating_add(u32::from(is_drawn));
+        end = end.saturating_add(u32::from(is_seen(standings, *number)));
     }
     end
 }
@@ -96,17 +107,25 @@ fn numbers_in<'a>(
     }
 }
 
-/// Whether each of these lines stands below what it presupposes, which stands where its sources say.
-fn stand_below<'a>(books: Books<'_, 'a>, drawn: &[Drawn<'a>], sources: &[Sources]) -> bool
-    ensures { result ≡ true → StandBelow books.entry.wanted books.entry.tags.now (told_lines books.entry.lines.now) drawn.now }
-{
-    all_stand_below(books.wanted, books.tags, books.lines, drawn, sources)
+/// Gives the lines of the books their places from the top down, and their rows.
+fn give_places<'a>(
+    alloc: Global,
+    arranged: &mut Arranged<'a>,
+    told: &BookLines<'a>,
+    standings: &[Standing],
+    as_told: bool,
+) -> Result<(), AllocError> {
+    arranged.numbers = numbers_in(alloc, told, as_told)?;
+    arranged.rows = filled(alloc, 0u32, standings.len())?;
+    arranged.end = give_rows(&mut arranged.rows, standings, arranged.numbers.as_slice());
+    Ok(())
 }
 
 /// Whether each of these lines is found to stand below what it presupposes. Those in the order of the report are not looked at.
 fn is_allowed<'a>(
     alloc: Global,
     books: Books<'_, 'a>,
+    standings: &[Standing],
     as_told: bool,
     rows: &[u32],
     drawn: &[Drawn<'a>],
@@ -118,41 +137,77 @@ fn is_allowed<'a>(
     if as_told {
         return Ok(false);
     }
-    let sources = sources_in(alloc, books, rows)?;
-    Ok(stand_below(books, drawn, sources.as_slice()))
+    let sources = sources_in(alloc, books.told, standings, rows)?;
+    let found = all_stand_below(
+        books.wanted,
+        books.tags,
+        books.lines,
+        drawn,
+        sources.as_slice(),
+    );
+    Ok(found)
 }
 
-/// The lines in the order of the report; or in one that their causes allow, and whether each is found to stand below what it presupposes.
-/// Where no order has all of them, lines are missing.
-fn arranged_in<'a>(
+/// Arranges the lines in the order of the report; or in one that their causes allow, and tells whether each is found to stand below what
+/// it presupposes. Where no order has all of them, lines are missing.
+fn arrange_in<'a>(
     alloc: Global,
+    arranged: &mut Arranged<'a>,
     books: Books<'_, 'a>,
+    standings: &[Standing],
     as_told: bool,
-) -> Result<Arranged<'a>, Memory>
-    ensures once { IfOk result (λ arranged.
-        lines_in arranged.drawn.items ≡ filter (is_drawn books.entry.wanted books.entry.tags.now) (told_lines books.entry.lines.now)) }
-    ensures columns { IfOk result (λ arranged. StandInColumns books.entry.tags.now arranged.drawn.items) }
-    ensures order { IfOk result (λ arranged. StandInOrder arranged.drawn.items) }
-    ensures told { IfOk result (λ arranged. as_told ≡ true → (arranged.in_order ≡ false) × StandFrom 0 arranged.drawn.items) }
-    ensures allowed { IfOk result (λ arranged. arranged.in_order ≡ true
-        → StandBelow books.entry.wanted books.entry.tags.now (told_lines books.entry.lines.now) arranged.drawn.items) }
+) -> Result<(), Memory>
+    ensures once { OnOk result (lines_in arranged.new.drawn.items
+        ≡ filter (is_drawn books.entry.wanted books.entry.tags.now) (told_lines books.entry.lines.now)) }
+    ensures columns { OnOk result (StandInColumns books.entry.tags.now arranged.new.drawn.items) }
+    ensures order { OnOk result (StandInOrder arranged.new.drawn.items) }
+    ensures told { OnOk result (as_told ≡ true → (arranged.new.in_order ≡ false) × StandFrom 0 arranged.new.drawn.items) }
+    ensures allowed { OnOk result (arranged.new.in_order ≡ true
+        → StandBelow books.entry.wanted books.entry.tags.now (told_lines books.entry.lines.now) arranged.new.drawn.items) }
 {
-    let numbers = numbers_in(alloc, books.told, as_told)?;
-    let mut rows = filled(alloc, 0u32, books.told.notes.len())?;
-    let end = give_rows(&mut rows, books, numbers.as_slice());
-    let drawn = drawn_in(alloc, books, rows.as_slice(), as_told)?;
-    let in_order = is_allowed(alloc, books, as_told, rows.as_slice(), drawn.as_slice())?;
-    Ok(Arranged {
-        numbers,
+    give_places(alloc, arranged, books.told, standings, as_told)?;
+    draw_all(
+        &mut arranged.drawn,
+        books,
+        arranged.rows.as_slice(),
+        as_told,
+    )?;
+    let rows = arranged.rows.as_slice();
+    arranged.in_order = is_allowed(
+        alloc,
+        books,
+        standings,
+        as_told,
         rows,
-        end,
-        drawn,
-        in_order,
-    })
+        arranged.drawn.as_slice(),
+    )?;
+    Ok(())
+}
+
+/// Arranges the lines, each below what it presupposes; where no order does, in the order of the report.
+fn arrange_all<'a>(
+    alloc: Global,
+    arranged: &mut Arranged<'a>,
+    books: Books<'_, 'a>,
+    standings: &[Standing],
+) -> Result<(), Memory>
+    ensures once { OnOk result (lines_in arranged.new.drawn.items
+        ≡ filter (is_drawn books.entry.wanted books.entry.tags.now) (told_lines books.entry.lines.now)) }
+    ensures columns { OnOk result (StandInColumns books.entry.tags.now arranged.new.drawn.items) }
+    ensures order { OnOk result (StandInOrder arranged.new.drawn.items) }
+    ensures ordered { OnOk result (AreOrdered arranged.new.in_order books.entry.wanted books.entry.tags.now
+        (told_lines books.entry.lines.now) arranged.new.drawn.items) }
+{
+    arrange_in(alloc, arranged, books, standings, false)?;
+    let all = arranged.numbers.len() == standings.len();
+    if all && arranged.in_order {
+        return Ok(());
+    }
+    arrange_in(alloc, arranged, books, standings, true)?;
+    Ok(())
 }
 
 /// The lines, each below what it presupposes; where no order does, in the order of the report.
-#[tactic(auto, using(crate::proofs::Shows::are_allowed, crate::proofs::Shows::are_told))]
 pub(crate) fn arrange<'a>(alloc: Global, books: Books<'_, 'a>) -> Result<Arranged<'a>, Memory>
     ensures once { IfOk result (λ arranged.
         lines_in arranged.drawn.items ≡ filter (is_drawn books.entry.wanted books.entry.tags.now) (told_lines books.entry.lines.now)) }
@@ -161,11 +216,16 @@ pub(crate) fn arrange<'a>(alloc: Global, books: Books<'_, 'a>) -> Result<Arrange
     ensures ordered { IfOk result (λ arranged.
         AreOrdered arranged.in_order books.entry.wanted books.entry.tags.now (told_lines books.entry.lines.now) arranged.drawn.items) }
 {
-    let caused = arranged_in(alloc, books, false)?;
-    let all = caused.numbers.len() == books.told.notes.len();
-    if all && caused.in_order {
-        return Ok(caused);
+    let standings = standings_in(alloc, books)?;
+    let mut arranged = Arranged {
+        numbers: Vec::new(alloc),
+        rows: Vec::new(alloc),
+        end: 0,
+        drawn: Vec::new(alloc),
+        in_order: false,
+    };
+    match arrange_all(alloc, &mut arranged, books, standings.as_slice()) {
+        Ok(()) => Ok(arranged),
+        Err(fault) => Err(fault),
     }
-    let told = arranged_in(alloc, books, true)?;
-    Ok(told)
 }

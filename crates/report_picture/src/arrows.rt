@@ -2,6 +2,7 @@
 
 use crate::keyed::Numbers;
 use crate::looks::{Look, Shade};
+use crate::notes::{ARROWS, Note};
 use crate::told::{BookLines, first_of};
 use gathered::{Gathered, NOWHERE, at};
 use std::alloc::{AllocError, Global};
@@ -39,6 +40,27 @@ pub(crate) fn shade_of(number: usize) -> Shade {
     at(&SHADES, number % 8, Shade::Blue)
 }
 
+/// The arrow of no lines.
+const NO_ARROW: Arrow = Arrow {
+    from: NOWHERE,
+    to: NOWHERE,
+    look: Look::Joins,
+};
+
+/// The arrow that a line tells of, besides that of the element that it brought.
+fn own_arrow<'a>(told: &BookLines<'a>, here: usize, note: &Note<'a>) -> Arrow {
+    for (verb, from, to, look) in ARROWS.iter() {
+        if *verb as usize == note.verb.number {
+            return Arrow {
+                from: told.find(*from, here),
+                to: told.find(*to, here),
+                look: *look,
+            };
+        }
+    }
+    NO_ARROW
+}
+
 impl<'a> Channels<'a> {
     /// The number of a channel, which it gets if it has none.
     fn number_of(&mut self, channel: &'a [u8]) -> usize {
@@ -52,29 +74,30 @@ impl<'a> Channels<'a> {
     }
 
     /// Adds an arrow, if both its lines are there.
-    fn add(&mut self, from: usize, to: usize, look: Look) {
-        if from != NOWHERE && to != NOWHERE && from != to {
-            self.arrows.add(Arrow { from, to, look });
+    fn add(&mut self, arrow: Arrow) {
+        if arrow.from != NOWHERE && arrow.to != NOWHERE && arrow.from != arrow.to {
+            self.arrows.add(arrow);
         }
     }
 
-    /// Adds the arrows that a line tells of: those of its verb, and that of the element that it brought.
-    fn add_of(&mut self, told: &BookLines<'a>, here: usize) {
-        let note = told.note(here);
-        let verb = note.verb;
-        for (from, to, look) in verb.arrows {
-            self.add(told.find(from, here), told.find(to, here), *look);
-        }
-        let got = told.find(verb.got, here);
-        if got != NOWHERE {
-            let shade = shade_of(self.number_of(note.channel));
-            self.add(here, got, Look::Brings(shade));
+    /// Adds the arrow of an element of a channel, if there is a line that got it.
+    fn add_element(&mut self, channel: &'a [u8], from: usize, to: usize) {
+        if to != NOWHERE {
+            let shade = shade_of(self.number_of(channel));
+            self.add(Arrow {
+                from,
+                to,
+                look: Look::Brings(shade),
+            });
         }
     }
 
+    /// Adds the arrows that the lines tell of: those of their verbs, and those of the elements that they brought.
     fn add_all(&mut self, told: &BookLines<'a>) {
-        for here in 0..told.notes.len() {
-            self.add_of(told, here);
+        for (here, note) in told.notes.as_slice().iter().enumerate() {
+            self.add(own_arrow(told, here, note));
+            let (got, _, _, _) = note.links();
+            self.add_element(note.channel, here, told.find(got, here));
         }
     }
 }

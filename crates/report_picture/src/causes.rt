@@ -1,6 +1,6 @@
 //! Which line stands below which other.
 
-use crate::notes::Note;
+use crate::notes::{CAUSES, Note};
 use crate::told::BookLines;
 use gathered::{Gathered, NOWHERE};
 use std::alloc::{AllocError, Global};
@@ -27,8 +27,10 @@ fn add_of<'a>(
     here: usize,
     note: &Note<'a>,
 ) {
-    for (above, below) in note.verb.causes {
-        add(causes, told.find(above, here), told.find(below, here));
+    for (verb, above, below) in CAUSES.iter() {
+        if *verb as usize == note.verb.number {
+            add(causes, told.find(*above, here), told.find(*below, here));
+        }
     }
     let before = here.saturating_sub(1);
     if told.note(before).tag == note.tag {

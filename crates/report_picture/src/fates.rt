@@ -8,45 +8,99 @@ use crate::layout::{INDENT, label_of, text_width};
 use crate::looks::Look;
 use crate::marks::{Marks, shown};
 use crate::notes::Fact;
-use crate::picture::{Lost, Route, Spot};
+use crate::picture::{Column, Lost, Route, Spot};
 use crate::sheet::{NO_COLUMN, Sheet};
-use crate::told::first_of;
-use gathered::{NOWHERE, at};
+use crate::told::{BookLines, first_of};
+use gathered::{Gathered, NOWHERE, at};
 use picture_parts::word;
 use report_reader::{Line, Said};
-use std::alloc::AllocError;
+use std::alloc::{AllocError, Global};
 
-/// The line at which the element of this line ended, if that is in the picture.
-pub(crate) fn end_in<'a>(sheet: &Sheet<'_, 'a>, line: &'a [u8]) -> usize {
-    let told = sheet.books.told;
+/// Where the element of a line of the report ended, if it is one of an element: behind the text of a line that is in the picture.
+#[derive(Clone, Copy)]
+pub(crate) struct End {
+    /// The column of that line; that of nowhere, if it is not in the picture.
+    pub(crate) column: usize,
+    /// Where the middle of its row is.
+    y: u64,
+    /// How many bytes its text has, and with that of the element.
+    before: usize,
+    pub(crate) bytes: usize,
+}
+
+const NO_END: End = End {
+    column: NOWHERE,
+    y: 0,
+    before: 0,
+    bytes: 0,
+};
+
+/// The line of the books at which the element ended whose line this is.
+fn end_of<'a>(told: &BookLines<'a>, line: &'a [u8]) -> usize {
     let channel = word(1, line);
     let place = word(2, line);
     let gives_up = told.at_place(Fact::GivesUp, channel, place);
     let brings = told.at_place(Fact::Brings, channel, place);
-    let number = first_of(gives_up, first_of(told.settled_at(channel, place), brings));
-    if sheet.is_seen(number) && sheet.column_at(number) != NOWHERE {
-        number
-    } else {
-        NOWHERE
+    first_of(gives_up, first_of(told.settled_at(channel, place), brings))
+}
+
+/// The end at a line of the books of an element with a text of so many bytes.
+fn end_at<'a>(sheet: &Sheet<'_, 'a>, number: usize, bytes: usize) -> End {
+    let seat = sheet.seat(number);
+    let before = label_of(seat.title.line).len();
+    End {
+        column: if sheet.is_seen(number) {
+            seat.column
+        } else {
+            NOWHERE
+        },
+        y: sheet.y(number),
+        before,
+        bytes: before.saturating_add(bytes),
     }
 }
 
-/// Where the label of an element is whose line this is: behind the text of the line at which the element ended, if that is in the picture.
-fn spot_of<'a>(sheet: &Sheet<'_, 'a>, line: &'a [u8]) -> Option<Spot> {
-    let number = end_in(sheet, line);
-    let text = at(sheet.columns, sheet.column_at(number), NO_COLUMN).text;
-    let width = text_width(label_of(sheet.text_at(number)).len());
-    let spot = Spot {
-        x: text.saturating_add(width).saturating_add(INDENT),
-        y: sheet.y(number).saturating_add(4),
-    };
-    if number == NOWHERE { None } else { Some(spot) }
+/// The end of the element of a line.
+fn end_in<'a>(told: &BookLines<'a>, sheet: &Sheet<'_, 'a>, line: Line<'a>) -> End {
+    match line.said {
+        Said::Element => end_at(sheet, end_of(told, line.text), line.text.len()),
+        Said::Note(_) | Said::Job(_) => NO_END,
+    }
 }
 
-/// Adds the end of the element of a line, if it is one of an element.
+/// The ends of the elements of these lines.
+pub(crate) fn ends_of<'a>(
+    alloc: Global,
+    told: &BookLines<'a>,
+    sheet: &Sheet<'_, 'a>,
+    lines: &[Line<'a>],
+) -> Gathered<End> {
+    let mut ends = Gathered::new(alloc);
+    for line in lines {
+        ends.add(end_in(told, sheet, *line));
+    }
+    ends
+}
+
+/// Where the label of an element is that ended here, if that is in the picture.
+fn spot_of(columns: &[Column], end: End) -> Option<Spot> {
+    let text = at(columns, end.column, NO_COLUMN).text;
+    let width = text_width(end.before);
+    let spot = Spot {
+        x: text.saturating_add(width).saturating_add(INDENT),
+        y: end.y.saturating_add(4),
+    };
+    if end.column == NOWHERE {
+        None
+    } else {
+        Some(spot)
+    }
+}
+
+/// Adds the end of the element of a line, if it is one of an element, whose label is here.
 fn push_lost<'a>(
     lost: &mut Vec<Lost<'a>>,
-    sheet: &Sheet<'_, 'a>,
+    at: Option<Spot>,
     line: Line<'a>,
 ) -> Result<(), AllocError>
     ensures { OnOk result (map (λ e. told e.line) lost.new.items
@@ -54,7 +108,6 @@ fn push_lost<'a>(
 {
     match line.said {
         Said::Element => {
-            let at = spot_of(sheet, line.text);
             lost.push(Lost { at, line })?;
             Ok(())
         }
@@ -62,19 +115,21 @@ fn push_lost<'a>(
     }
 }
 
-/// Adds the ends of the elements that were not received.
-#[tactic(auto, using(crate::proofs::Placing::filter_more))]
+/// Adds the ends of the elements of these lines that were not received.
 pub(crate) fn add_lost<'a>(
     lost: &mut Vec<Lost<'a>>,
-    sheet: &Sheet<'_, 'a>,
+    columns: &[Column],
+    ends: &[End],
     lines: &[Line<'a>],
 ) -> Result<(), AllocError>
     ensures { OnOk result (map (λ e. told e.line) lost.new.items
         ≡ map (λ e. told e.line) lost.old.items ++ filter is_element (told_lines lines.now)) }
 {
     let mut rest = lines;
+    let mut i = 0usize;
     while let [line, more @ ..] = rest {
-        push_lost(lost, sheet, *line)?;
+        push_lost(lost, spot_of(columns, at(ends, i, NO_END)), *line)?;
+        i = i.saturating_add(1);
         rest = more;
     }
     Ok(())

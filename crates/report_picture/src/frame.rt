@@ -7,8 +7,9 @@ use crate::looks::{Look, State};
 use crate::marks::{Marks, shown, untitled};
 use crate::picture::Route;
 use crate::sheet::Sheet;
+use crate::told::BookLines;
 use gathered::NOWHERE;
-use report_reader::{Said, cut_at};
+use report_reader::{Line, Said, cut_at};
 
 /// How wide an entry of the legend is, and how many there are in a row.
 const ENTRY: u64 = 190;
@@ -18,7 +19,10 @@ const ENTRIES: usize = 4;
 /// How wide the legend is.
 pub(crate) const LEGEND: u64 = 20 + 4 * ENTRY;
 
-const LEGEND_ENTRIES: [(Look, &[u8]); 12] = [
+/// How many entries every legend has.
+const FIRST: usize = 12;
+
+const LEGEND_ENTRIES: [(Look, &[u8]); FIRST] = [
     (Look::Life(State::New), b"new"),
     (Look::Life(State::Active), b"active"),
     (Look::Life(State::Completing), b"completing"),
@@ -35,7 +39,7 @@ const LEGEND_ENTRIES: [(Look, &[u8]); 12] = [
 
 /// Where the heads begin below the legend, with so many channels.
 pub(crate) fn top_of(channels: usize) -> u32 {
-    let rows = (channels.saturating_add(LEGEND_ENTRIES.len() + ENTRIES - 1)) / ENTRIES;
+    let rows = (channels.saturating_add(FIRST + ENTRIES - 1)) / ENTRIES;
     let rows = u32::try_from(rows).unwrap_or(u32::MAX);
     rows.saturating_mul(24).saturating_add(32)
 }
@@ -46,7 +50,7 @@ pub(crate) fn add_legend<'a>(marks: &mut Marks<'a>, channels: &[&'a [u8]]) {
         add_entry(marks, number, *look, (*name, b""));
     }
     for (number, name) in channels.iter().enumerate() {
-        let place = number.saturating_add(LEGEND_ENTRIES.len());
+        let place = number.saturating_add(FIRST);
         let look = Look::Brings(shade_of(number));
         add_entry(marks, place, look, (b"channel ", *name));
     }
@@ -118,39 +122,68 @@ fn below_job(sheet: &Sheet, said: Said, y: u64) -> u64 {
     }
 }
 
-/// Where the picture ends: below the Jobs without a column.
-pub(crate) fn height_of(sheet: &Sheet) -> u64 {
+/// Where the picture ends of a report of these lines: below the Jobs without a column.
+pub(crate) fn height_of(sheet: &Sheet, lines: &[Line]) -> u64 {
     let mut y = feet_y(sheet).saturating_add(24);
-    for line in sheet.books.lines {
+    for line in lines {
         y = below_job(sheet, line.said, y);
     }
     y
 }
 
+/// A text below the columns, in two parts.
+#[derive(Clone, Copy)]
+struct Foot<'a> {
+    place: (u64, u64),
+    look: Look,
+    said: &'a [u8],
+    behind: &'a [u8],
+}
+
 /// What is told of a Job: at the foot of its column how it ended, or how far it is, and that its coroutine waits, if it does; of a Job
 /// without a column the whole line, here.
-fn add_job<'a>(marks: &mut Marks<'a>, sheet: &Sheet<'_, 'a>, row: u32, line: &'a [u8], y: u64) {
+fn foot_of<'a>(
+    sheet: &Sheet<'_, 'a>,
+    told: &BookLines<'a>,
+    row: u32,
+    line: &'a [u8],
+    y: u64,
+) -> Foot<'a> {
     let column = sheet.column(row);
     if column == NOWHERE {
-        marks.add_text((36, y), Look::Label, (line, b""), shown(line));
-        return;
+        return Foot {
+            place: (36, y),
+            look: Look::Label,
+            said: line,
+            behind: b"",
+        };
     }
-    let place = (sheet.left_of(column), feet_y(sheet));
-    let said = behind_word(behind_word(line));
-    let (look, behind) = if hangs(sheet, row) {
+    let (look, behind) = if hangs(told, row) {
         (Look::Hangs, b", waits".as_slice())
     } else {
         (Look::Foot, b"".as_slice())
     };
-    marks.add_text(place, look, (said, behind), shown(line));
+    Foot {
+        place: (sheet.left_of(column), feet_y(sheet)),
+        look,
+        said: behind_word(behind_word(line)),
+        behind,
+    }
 }
 
 /// The feet of the columns: how each Job ended, or how far it is. The Jobs without a column are below.
-pub(crate) fn add_feet<'a>(marks: &mut Marks<'a>, sheet: &Sheet<'_, 'a>) {
+pub(crate) fn add_feet<'a>(
+    marks: &mut Marks<'a>,
+    sheet: &Sheet<'_, 'a>,
+    told: &BookLines<'a>,
+    lines: &[Line<'a>],
+) {
     let mut y = feet_y(sheet).saturating_add(24);
-    for line in sheet.books.lines {
+    for line in lines {
         if let Said::Job(row) = line.said {
-            add_job(marks, sheet, row, line.text, y);
+            let foot = foot_of(sheet, told, row, line.text, y);
+            let texts = (foot.said, foot.behind);
+            marks.add_text(foot.place, foot.look, texts, shown(line.text));
         }
         y = below_job(sheet, line.said, y);
     }

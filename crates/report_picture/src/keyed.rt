@@ -33,4 +33,11 @@ impl<K: Hash + Eq + Copy> Numbers<K> {
             self.full = true;
         }
     }
+
+    /// Gives a key a number, if it has none.
+    pub(crate) fn put_first(&mut self, key: K, number: usize) {
+        if self.at(key) == NOWHERE {
+            self.put(key, number);
+        }
+    }
 }

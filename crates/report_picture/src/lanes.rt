@@ -34,23 +34,17 @@ const NO_LAID: Laid = Laid {
     lower: 0,
 };
 
-/// Whether both lines of an arrow have columns, and the row is drawn where it ends.
-fn is_laid<'a>(sheet: &Sheet<'_, 'a>, arrow: &Arrow) -> bool {
-    sheet.column_at(arrow.from) != NOWHERE
-        && sheet.column_at(arrow.to) != NOWHERE
-        && sheet.is_seen(arrow.to)
-}
-
-/// An arrow, for which a lane is sought.
-fn lay<'a>(sheet: &Sheet<'_, 'a>, arrow: Arrow) -> Laid {
-    let from = sheet.row(arrow.from);
-    let to = sheet.row(arrow.to);
+/// An arrow, for which a lane is sought; into the column of nowhere, unless both its lines have columns, and its end is in the picture.
+fn sought<'a>(sheet: &Sheet<'_, 'a>, arrow: Arrow) -> Laid {
+    let from = sheet.seat(arrow.from);
+    let to = sheet.seat(arrow.to);
+    let is_laid = (from.column != NOWHERE) & sheet.is_seen(arrow.to);
     Laid {
         arrow,
-        column: sheet.column_at(arrow.to),
+        column: if is_laid { to.column } else { NOWHERE },
         lane: 0,
-        upper: from.min(to),
-        lower: from.max(to),
+        upper: from.row.min(to.row),
+        lower: from.row.max(to.row),
     }
 }
 
@@ -59,17 +53,12 @@ fn both(first: u32, second: u32) -> u64 {
     u64::from(first) * 4_294_967_296 + u64::from(second)
 }
 
-/// The arrows that are drawn, and of each column what it takes.
-#[derive(Drop)]
-pub(crate) struct Lanes {
-    pub(crate) laid: Gathered<Laid>,
-    pub(crate) rooms: Gathered<Room>,
-}
-
 /// The lanes of the column whose arrows get theirs. The heaps have their numbers turned round, so that the least comes first.
 #[derive(Drop)]
 struct Sweep {
     column: usize,
+    /// How many lanes the column has so far.
+    lanes: u32,
     /// The lanes that are free.
     free: BinaryHeap<u32>,
     /// The lanes that are not, each behind the row in which its arrow ends.
@@ -87,103 +76,114 @@ impl Sweep {
             }
             self.busy.pop();
             let lane = (next % 4_294_967_296) as u32;
-            if self.free.push(u32::MAX - lane).is_err() {
-                self.full = true;
-            }
+            self.full = self.full | self.free.push(u32::MAX - lane).is_err();
         }
     }
 
     /// The first lane that is free, or one more.
-    fn take(&mut self, rooms: &mut Vec<Room>) -> u32 {
+    fn take(&mut self) -> u32 {
         if let Some(turned) = self.free.pop() {
             return u32::MAX - turned;
         }
-        let room = at(rooms.as_slice(), self.column, NO_ROOM);
-        let lanes = room.lanes.saturating_add(1);
-        put(rooms, self.column, Room { lanes, ..room });
-        room.lanes
+        let lane = self.lanes;
+        self.lanes = lane.saturating_add(1);
+        lane
     }
 
-    /// The lane of the next arrow.
-    fn lane_for(&mut self, rooms: &mut Vec<Room>, next: &Laid) -> u32 {
-        if next.column != self.column {
-            self.column = next.column;
+    /// The lane of the next arrow, which goes into this column between these rows.
+    fn lane_for(&mut self, column: usize, upper: u32, lower: u32) -> u32 {
+        if column != self.column {
+            self.column = column;
+            self.lanes = 0;
             self.free.clear();
             self.busy.clear();
         }
-        self.free_above(next.upper);
-        let lane = self.take(rooms);
-        if self.busy.push(u64::MAX - both(next.lower, lane)).is_err() {
-            self.full = true;
-        }
+        self.free_above(upper);
+        let lane = self.take();
+        self.full = self.full | self.busy.push(u64::MAX - both(lower, lane)).is_err();
         lane
     }
 }
 
-/// Sorts the arrows column by column, each column from the top down, gives each its lane, and tells whether memory held all of them.
-fn give_lanes(alloc: Global, laid: &mut Vec<Laid>, rooms: &mut Vec<Room>) -> bool {
-    let sorted = laid.sort_by_key(|one| (one.column, one.upper));
+/// Gives each arrow its lane, and tells whether memory held all of them. They are sorted column by column, each column from the top down.
+fn give_lanes(alloc: Global, laid: &mut Vec<Laid>) -> bool {
     let mut sweep = Sweep {
         column: NOWHERE,
+        lanes: 0,
         free: BinaryHeap::new(alloc),
         busy: BinaryHeap::new(alloc),
-        full: sorted.is_err(),
+        full: false,
     };
     for i in 0..laid.len() {
         let one = at(laid.as_slice(), i, NO_LAID);
-        let lane = sweep.lane_for(rooms, &one);
+        let lane = sweep.lane_for(one.column, one.upper, one.lower);
         put(laid, i, Laid { lane, ..one });
     }
     !sweep.full
 }
 
-impl Lanes {
-    pub(crate) fn new(alloc: Global) -> Lanes {
-        Lanes {
-            laid: Gathered::new(alloc),
-            rooms: Gathered::new(alloc),
+/// The arrows that are drawn of these, each in its lane.
+pub(crate) fn laid_in<'a>(
+    alloc: Global,
+    sheet: &Sheet<'_, 'a>,
+    arrows: &[Arrow],
+) -> Gathered<Laid> {
+    let mut laid = Gathered::new(alloc);
+    for arrow in arrows {
+        let one = sought(sheet, *arrow);
+        if one.column != NOWHERE {
+            laid.add(one);
         }
     }
+    let sorted = laid.as_mut().sort_by_key(|one| (one.column, one.upper));
+    laid.full = laid.full | sorted.is_err();
+    laid.full = laid.full | !give_lanes(alloc, laid.as_mut());
+    laid
+}
 
-    /// Adds the arrows that are drawn, each in its lane.
-    pub(crate) fn lay<'a>(&mut self, alloc: Global, plan: &Sheet<'_, 'a>) {
-        for arrow in plan.books.channels.arrows.as_slice() {
-            if is_laid(plan, arrow) {
-                self.laid.add(lay(plan, *arrow));
-            }
-        }
-        if !give_lanes(alloc, self.laid.as_mut(), self.rooms.as_mut()) {
-            self.laid.full = true;
-        }
+/// Makes room for the lanes of these arrows.
+pub(crate) fn add_lanes(rooms: &mut Vec<Room>, laid: &[Laid]) {
+    for one in laid {
+        let room = at(rooms.as_slice(), one.column, NO_ROOM);
+        let lanes = room.lanes.max(one.lane.saturating_add(1));
+        put(rooms, one.column, Room { lanes, ..room });
     }
 }
 
-/// Where an arrow begins: below its line, or, if that stands above the first row, at the edge in its lane.
-fn start_of<'a>(sheet: &Sheet<'_, 'a>, from: usize, lane: u64) -> (u64, u64) {
-    if sheet.is_seen(from) {
-        let left = sheet.left_of(sheet.column_at(from));
-        (
-            left.saturating_add(BAR / 2),
-            sheet.y(from).saturating_add(LEVEL),
-        )
+/// Where an arrow goes: from below its line, or, if that stands above the first row, from the edge in its lane.
+fn way_of<'a>(sheet: &Sheet<'_, 'a>, one: &Laid) -> Route {
+    let from = one.arrow.from;
+    let left = sheet.left_of(one.column);
+    let lane = lane_x(left, one.lane);
+    let y = sheet.y(from);
+    let to_y = sheet.y(one.arrow.to);
+    let to_x = left.saturating_sub(1);
+    let (x, level) = if sheet.is_seen(from) {
+        let left = sheet.left_of(sheet.seat(from).column);
+        (left.saturating_add(BAR / 2), y.saturating_add(LEVEL))
     } else {
-        (lane, sheet.y(from))
+        (lane, y)
+    };
+    Route::Bent {
+        x,
+        level,
+        lane,
+        to_y,
+        to_x,
     }
 }
 
 /// The arrows.
 pub(crate) fn add_ways<'a>(marks: &mut Marks<'a>, sheet: &Sheet<'_, 'a>, laid: &[Laid]) {
     for one in laid {
-        let left = sheet.left_of(one.column);
-        let lane = lane_x(left, one.lane);
-        let (x, level) = start_of(sheet, one.arrow.from, lane);
-        let way = Route::Bent {
-            x,
-            level,
-            lane,
-            to_y: sheet.y(one.arrow.to),
-            to_x: left.saturating_sub(1),
-        };
-        marks.add_path(way, one.arrow.look, sheet.title_at(one.arrow.from));
+        let title = sheet.seat(one.arrow.from).title;
+        marks.add_path(way_of(sheet, one), one.arrow.look, title);
     }
+}
+
+/// The arrows that are drawn, and of each column what it takes.
+#[derive(Drop)]
+pub(crate) struct Lanes {
+    pub(crate) laid: Gathered<Laid>,
+    pub(crate) rooms: Gathered<Room>,
 }

@@ -96,7 +96,6 @@ pub(crate) fn widen(rooms: &mut Vec<Room>, column: usize, bytes: usize) {
 }
 
 /// Adds the column of a coroutine to the right of the others, and answers where its texts begin.
-#[tactic(auto, using(crate::proofs::Beside::beside_more, crate::proofs::Beside::last_of_more))]
 fn push_column(columns: &mut Vec<Column>, tag: u32, lanes: u32, edge: u64) -> Result<u64, Memory>
     requires beside { StandBeside 0 columns.old.items }
     requires edge { last_text 0 columns.old.items ≤ edge }

@@ -24,7 +24,7 @@
 //! - `layout`: where rows, columns and texts are.
 //! - `sheet`: what the marks are made of.
 //! - `marks`: marks, added one by one.
-//! - `jobs`: what the Jobs go through.
+//! - `jobs`: what the Jobs go through, and the waits.
 //! - `lives`: the lives of the coroutines, and their waits.
 //! - `arrows`: the arrows of elements and of cancellations, and from what brought a line about.
 //! - `lanes`: where arrows go down.

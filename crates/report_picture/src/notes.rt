@@ -2,7 +2,7 @@
 
 use crate::looks::{Look, State};
 use gathered::{NOWHERE, at};
-use report_reader::{Line, Said, value_of, words_of};
+use report_reader::{Line, Said, value_of};
 
 /// What a line can say: of a place of a channel, of a wait, of a channel, or of the row of a Job.
 #[derive(Clone, Copy)]
@@ -44,418 +44,357 @@ pub(crate) enum Of {
     Own,
 }
 
-/// A step from a line to the line that says this of the same: the first of these facts that is said.
-pub(crate) type Step = (&'static [Fact], Of);
-
-/// The steps from a line to another; none stay at the line.
-pub(crate) type Steps = &'static [Step];
-
-const ATTACHED: Step = (&[Fact::Attaches], Of::Subject);
-
-const STARTED: Step = (&[Fact::Starts], Of::Subject);
-
-const BEGUN: Step = (&[Fact::First], Of::Subject);
-
-const CANCELLED: Step = (&[Fact::Cancels], Of::Subject);
-
-const OTHER_CANCELLED: Step = (&[Fact::Cancels], Of::Other);
-
-const FINISHED: Step = (&[Fact::Finishes], Of::Subject);
-
-const OTHER_FINISHED: Step = (&[Fact::Finishes], Of::Other);
-
-const BROUGHT: Step = (&[Fact::Brings], Of::Subject);
-
-const AWAITED: Step = (&[Fact::Awaits], Of::Subject);
-
-const ADMITTED: Step = (&[Fact::Admits], Of::Subject);
-
-const TAKEN: Step = (&[Fact::Takes], Of::Subject);
-
-const CLOSED: Step = (&[Fact::Closes], Of::Subject);
-/// What resolved an offer, and a wait to receive.
-const SENT: Step = (&[Fact::Admits, Fact::Takes, Fact::GivesUp], Of::Subject);
-
-const RECEIVED: Step = (&[Fact::Brings, Fact::Wakes], Of::Subject);
-
-const SETTLED: Step = (&[Fact::Settles], Of::Wait);
-
-const LATE: Step = (&[Fact::Late], Of::Wait);
-
-const HERE: Steps = &[];
-
-const NOT_THERE: Steps = &[(&[], Of::Own)];
-/// To where the receiver goes on that waited at the place.
-const GONE_ON: Steps = &[AWAITED, SETTLED];
-
-/// Which words of a line are what, by their numbers, and of what it says its fact.
+/// A way from a line to the line that says something of the same, or of what that one names.
 #[derive(Clone, Copy)]
-struct Parts {
-    channel: usize,
-    place: usize,
-    wait: usize,
-    row: usize,
-    other: usize,
-    of: Of,
+pub(crate) enum Way {
+    /// To the line itself.
+    Here,
+    /// To none.
+    Nowhere,
+    Attached,
+    Started,
+    Begun,
+    Cancelled,
+    OtherCancelled,
+    /// To the `cancel` of the Job's parent.
+    ParentCancelled,
+    Finished,
+    OtherFinished,
+    ParentFinished,
+    Brought,
+    Awaited,
+    /// To where the receiver goes on that waited at the place.
+    GoneOn,
+    Admitted,
+    Taken,
+    Closed,
+    /// To what resolved an offer, and a wait to receive.
+    Sent,
+    Received,
+    Settled,
+    Late,
 }
 
-const NO_PARTS: Parts = Parts {
-    channel: NOWHERE,
-    place: NOWHERE,
-    wait: NOWHERE,
-    row: NOWHERE,
-    other: NOWHERE,
-    of: Of::Subject,
-};
+/// What a line says, and of what; where no line says that, one says the third, and else the fourth.
+pub(crate) type Says = (Fact, Of, Fact, Fact);
 
-const CHANNEL: Parts = Parts {
-    channel: 2,
-    ..NO_PARTS
-};
+const NOTHING: Says = (Fact::Nothing, Of::Own, Fact::Nothing, Fact::Nothing);
 
-const PLACE: Parts = Parts {
-    place: 3,
-    ..CHANNEL
-};
+const ATTACHED: Says = (Fact::Attaches, Of::Subject, Fact::Nothing, Fact::Nothing);
 
-const OFFER: Parts = Parts { wait: 5, ..PLACE };
+const CANCELLED: Says = (Fact::Cancels, Of::Subject, Fact::Nothing, Fact::Nothing);
 
-const AWAIT: Parts = Parts { wait: 4, ..PLACE };
+const FINISHED: Says = (Fact::Finishes, Of::Subject, Fact::Nothing, Fact::Nothing);
 
-const WAIT: Parts = Parts {
-    wait: 2,
-    of: Of::Wait,
-    ..NO_PARTS
-};
+const AWAITED: Says = (Fact::Awaits, Of::Subject, Fact::Nothing, Fact::Nothing);
 
-const ROW: Parts = Parts { row: 2, ..NO_PARTS };
+/// What the line says to which each way leads first, in the order of the ways.
+const FIRSTS: [Says; 21] = [
+    NOTHING,
+    NOTHING,
+    ATTACHED,
+    (Fact::Starts, Of::Subject, Fact::Nothing, Fact::Nothing),
+    (Fact::First, Of::Subject, Fact::Nothing, Fact::Nothing),
+    CANCELLED,
+    (Fact::Cancels, Of::Other, Fact::Nothing, Fact::Nothing),
+    ATTACHED,
+    FINISHED,
+    (Fact::Finishes, Of::Other, Fact::Nothing, Fact::Nothing),
+    ATTACHED,
+    (Fact::Brings, Of::Subject, Fact::Nothing, Fact::Nothing),
+    AWAITED,
+    AWAITED,
+    (Fact::Admits, Of::Subject, Fact::Nothing, Fact::Nothing),
+    (Fact::Takes, Of::Subject, Fact::Nothing, Fact::Nothing),
+    (Fact::Closes, Of::Subject, Fact::Nothing, Fact::Nothing),
+    (Fact::Admits, Of::Subject, Fact::Takes, Fact::GivesUp),
+    (Fact::Brings, Of::Subject, Fact::Wakes, Fact::Wakes),
+    (Fact::Settles, Of::Wait, Fact::Nothing, Fact::Nothing),
+    (Fact::Late, Of::Wait, Fact::Nothing, Fact::Nothing),
+];
 
-const ROWS: Parts = Parts { other: 4, ..ROW };
-
-/// What a line of a book says, by its words.
-#[derive(Clone, Copy)]
-pub(crate) struct Verb {
-    pub(crate) fact: Fact,
-    parts: Parts,
-    /// The state that it brings the Job of its row to.
-    state: Option<State>,
-    /// Whether it attaches the Job of a coroutine, and not that of a scope.
-    pub(crate) launches: bool,
-    /// Whether it places a wait.
-    pub(crate) waits: bool,
-    /// Pairs of lines of which the first stands above the second.
-    pub(crate) causes: &'static [(Steps, Steps)],
-    /// The arrows that it tells of, besides that of the element that it brought.
-    pub(crate) arrows: &'static [(Steps, Steps, Look)],
-    /// To the line that got the element that it brought.
-    pub(crate) got: Steps,
-    /// To the line that resolved the wait that it placed or withdrew.
-    pub(crate) resolved: Steps,
-    /// To the line that tells whom it concerns, and what of that.
-    pub(crate) target: (Steps, Of),
+/// What the line says to which a way leads first.
+pub(crate) fn first_on(way: Way) -> Says {
+    at(&FIRSTS, way as usize, NOTHING)
 }
 
-const OTHER: Verb = Verb {
-    fact: Fact::Nothing,
-    parts: NO_PARTS,
-    state: None,
-    launches: false,
-    waits: false,
-    causes: &[],
-    arrows: &[],
-    got: NOT_THERE,
-    resolved: NOT_THERE,
-    target: (HERE, Of::Own),
-};
+/// The verbs. A line with an `attach`, a `cancel` or a `finish` can have a word for how it is: those with such a word come last, and before
+/// them the same with any other.
+#[derive(Clone, Copy)]
+pub(crate) enum Verb {
+    Hand,
+    Put,
+    Offer,
+    Await,
+    Take,
+    Admit,
+    Drop,
+    Spurn,
+    Drain,
+    WakeClosed,
+    Close,
+    SendClosed,
+    TrySendClosed,
+    ReceiveClosed,
+    TryReceiveClosed,
+    Settle,
+    Withdraw,
+    Late,
+    Start,
+    EndBody,
+    Gone,
+    Saw,
+    SawEnd,
+    Attach,
+    Cancel,
+    Finish,
+    AttachPlain,
+    AttachLazy,
+    CancelByChild,
+    CancelByParent,
+    FinishCompleted,
+    FinishCancelled,
+}
 
-const HAND: Verb = Verb {
-    fact: Fact::Brings,
-    parts: PLACE,
-    causes: &[(&[AWAITED], HERE)],
-    got: GONE_ON,
-    target: (&[AWAITED], Of::Own),
-    ..OTHER
-};
-
-const PUT: Verb = Verb {
-    fact: Fact::Brings,
-    parts: PLACE,
-    got: &[TAKEN],
-    ..OTHER
-};
-
-const OFFERS: Verb = Verb {
-    parts: OFFER,
-    waits: true,
-    causes: &[(&[SENT], &[SETTLED]), (&[SENT], &[LATE])],
-    arrows: &[(&[SENT], &[SETTLED], Look::Joins)],
-    resolved: &[SENT],
-    ..PUT
-};
-
-const AWAITS: Verb = Verb {
-    fact: Fact::Awaits,
-    parts: AWAIT,
-    waits: true,
-    causes: &[(&[RECEIVED], &[SETTLED]), (&[RECEIVED], &[LATE])],
-    resolved: &[RECEIVED],
-    ..OTHER
-};
-
-const TAKE: Verb = Verb {
-    fact: Fact::Takes,
-    parts: PLACE,
-    causes: &[(&[BROUGHT], HERE), (&[ADMITTED], HERE)],
-    ..OTHER
-};
-
-const ADMIT: Verb = Verb {
-    fact: Fact::Admits,
-    parts: PLACE,
-    causes: &[(&[BROUGHT], HERE)],
-    target: (&[BROUGHT], Of::Own),
-    ..OTHER
-};
-
-/// A drop, a spurn or a drain.
-const DROP: Verb = Verb {
-    fact: Fact::GivesUp,
-    parts: PLACE,
-    causes: &[(&[BROUGHT], HERE)],
-    ..OTHER
-};
-
-const WAKE_CLOSED: Verb = Verb {
-    fact: Fact::Wakes,
-    parts: PLACE,
-    causes: &[(&[AWAITED], HERE)],
-    arrows: &[(HERE, GONE_ON, Look::Joins)],
-    target: (&[AWAITED], Of::Own),
-    ..OTHER
-};
-
-const CLOSE: Verb = Verb {
-    fact: Fact::Closes,
-    parts: CHANNEL,
-    ..OTHER
-};
-
-/// A call that found its channel closed.
-const CLOSED_ANSWER: Verb = Verb {
-    parts: CHANNEL,
-    causes: &[(&[CLOSED], HERE)],
-    ..OTHER
-};
-
-const SETTLE: Verb = Verb {
-    fact: Fact::Settles,
-    parts: WAIT,
-    ..OTHER
-};
-
-const WITHDRAW: Verb = Verb {
-    parts: WAIT,
-    resolved: HERE,
-    ..OTHER
-};
-
-const COMES_LATE: Verb = Verb {
-    fact: Fact::Late,
-    parts: WAIT,
-    ..OTHER
-};
-
-/// Attaches the Job of a scope, where its word is no other.
-const ATTACH: Verb = Verb {
-    fact: Fact::Attaches,
-    parts: ROWS,
-    state: Some(State::Active),
-    causes: &[(HERE, &[CANCELLED]), (HERE, &[STARTED])],
-    target: (HERE, Of::Subject),
-    ..OTHER
-};
-
-const ATTACH_LAZY: Verb = Verb {
-    state: Some(State::New),
-    launches: true,
-    causes: &[(HERE, &[BEGUN]), (HERE, &[CANCELLED]), (HERE, &[STARTED])],
-    ..ATTACH
-};
-
-const ATTACH_PLAIN: Verb = Verb {
-    state: Some(State::Active),
-    arrows: &[(HERE, &[BEGUN], Look::Joins)],
-    ..ATTACH_LAZY
-};
-
-const START: Verb = Verb {
-    fact: Fact::Starts,
-    parts: ROW,
-    state: Some(State::Active),
-    causes: &[(HERE, &[BEGUN])],
-    arrows: &[(HERE, &[BEGUN], Look::Joins)],
-    target: (HERE, Of::Subject),
-    ..OTHER
-};
-
-const END_BODY: Verb = Verb {
-    parts: ROW,
-    state: Some(State::Completing),
-    causes: &[(HERE, &[FINISHED])],
-    ..OTHER
-};
-
-const CANCEL: Verb = Verb {
-    fact: Fact::Cancels,
-    parts: ROWS,
-    state: Some(State::Cancelling),
-    target: (HERE, Of::Subject),
-    ..OTHER
-};
-
-/// Cancelled by a child that failed, and with its parent.
-const CANCEL_BY_CHILD: Verb = Verb {
-    causes: &[(&[OTHER_CANCELLED], HERE)],
-    ..CANCEL
-};
-
-const CANCEL_BY_PARENT: Verb = Verb {
-    causes: &[(&[ATTACHED, OTHER_CANCELLED], HERE)],
-    ..CANCEL
-};
-
-/// Finished as failed, where its word is no other.
-const FINISH: Verb = Verb {
-    fact: Fact::Finishes,
-    parts: ROW,
-    state: Some(State::Failed),
-    ..OTHER
-};
-
-const FINISH_COMPLETED: Verb = Verb {
-    state: Some(State::Completed),
-    ..FINISH
-};
-
-const FINISH_CANCELLED: Verb = Verb {
-    state: Some(State::Cancelled),
-    ..FINISH
-};
-
-const GONE: Verb = Verb {
-    parts: ROW,
-    causes: &[(HERE, &[ATTACHED, OTHER_FINISHED])],
-    target: (&[ATTACHED], Of::Other),
-    ..OTHER
-};
-
-const SAW: Verb = Verb {
-    parts: ROW,
-    causes: &[(&[CANCELLED], HERE)],
-    arrows: &[(&[CANCELLED], HERE, Look::Cancels)],
-    ..OTHER
-};
-
-const SAW_END: Verb = Verb {
-    parts: ROW,
-    causes: &[(&[FINISHED], HERE)],
-    ..OTHER
-};
-
-/// The words of each verb: its own, and that for how it is, with the number of that; of those with the same word those that ask for a word
-/// for how it is come first.
-const WORDS: [(&[u8], &[u8], usize); 32] = [
-    (b"hand", b"", NOWHERE),
-    (b"put", b"", NOWHERE),
-    (b"offer", b"", NOWHERE),
-    (b"await", b"", NOWHERE),
-    (b"take", b"", NOWHERE),
-    (b"admit", b"", NOWHERE),
-    (b"drop", b"", NOWHERE),
-    (b"spurn", b"", NOWHERE),
-    (b"drain", b"", NOWHERE),
-    (b"wakeclosed", b"", NOWHERE),
-    (b"close", b"", NOWHERE),
-    (b"sendclosed", b"", NOWHERE),
-    (b"trysendclosed", b"", NOWHERE),
-    (b"receiveclosed", b"", NOWHERE),
-    (b"tryreceiveclosed", b"", NOWHERE),
-    (b"settle", b"", NOWHERE),
-    (b"withdraw", b"", NOWHERE),
-    (b"late", b"", NOWHERE),
-    (b"attach", b"plain", 7),
-    (b"attach", b"lazy", 7),
-    (b"attach", b"", NOWHERE),
-    (b"start", b"", NOWHERE),
-    (b"endbody", b"", NOWHERE),
-    (b"cancel", b"child", 3),
-    (b"cancel", b"parent", 3),
-    (b"cancel", b"", NOWHERE),
-    (b"finish", b"completed", 3),
-    (b"finish", b"cancelled", 3),
-    (b"finish", b"", NOWHERE),
-    (b"gone", b"", NOWHERE),
-    (b"saw", b"", NOWHERE),
-    (b"sawend", b"", NOWHERE),
+/// The words of the verbs up to `Finish`, in their order.
+const NAMES: [&[u8]; 26] = [
+    b"hand",
+    b"put",
+    b"offer",
+    b"await",
+    b"take",
+    b"admit",
+    b"drop",
+    b"spurn",
+    b"drain",
+    b"wakeclosed",
+    b"close",
+    b"sendclosed",
+    b"trysendclosed",
+    b"receiveclosed",
+    b"tryreceiveclosed",
+    b"settle",
+    b"withdraw",
+    b"late",
+    b"start",
+    b"endbody",
+    b"gone",
+    b"saw",
+    b"sawend",
+    b"attach",
+    b"cancel",
+    b"finish",
 ];
 
-/// The verbs, in the order of their words.
-static VERBS: [Verb; 32] = [
-    HAND,
-    PUT,
-    OFFERS,
-    AWAITS,
-    TAKE,
-    ADMIT,
-    DROP,
-    DROP,
-    DROP,
-    WAKE_CLOSED,
-    CLOSE,
-    CLOSED_ANSWER,
-    CLOSED_ANSWER,
-    CLOSED_ANSWER,
-    CLOSED_ANSWER,
-    SETTLE,
-    WITHDRAW,
-    COMES_LATE,
-    ATTACH_PLAIN,
-    ATTACH_LAZY,
-    ATTACH,
-    START,
-    END_BODY,
-    CANCEL_BY_CHILD,
-    CANCEL_BY_PARENT,
-    CANCEL,
-    FINISH_COMPLETED,
-    FINISH_CANCELLED,
-    FINISH,
-    GONE,
-    SAW,
-    SAW_END,
+/// The words for how it is of the verbs behind `Finish`, in their order.
+const HOWS: [&[u8]; 6] = [
+    b"plain",
+    b"lazy",
+    b"child",
+    b"parent",
+    b"completed",
+    b"cancelled",
 ];
 
-/// What a line says that has none of them.
-static NO_VERB: Verb = OTHER;
+/// The verbs that these are with any other word.
+const OF_HOWS: [Verb; 6] = [
+    Verb::Attach,
+    Verb::Attach,
+    Verb::Cancel,
+    Verb::Cancel,
+    Verb::Finish,
+    Verb::Finish,
+];
 
-/// The number of the verb of a line of these words.
-fn verb_number(words: &[&[u8]]) -> usize {
-    let word = at(words, 1, b"");
-    for (number, (name, how, how_at)) in WORDS.iter().enumerate() {
-        if word == *name && at(words, *how_at, b"") == *how {
+/// Which words of a line are what: it is of a channel, of a place of one, of a place and a wait, of a wait, of a row, or of two.
+#[derive(Clone, Copy)]
+enum Form {
+    Other,
+    Channel,
+    Place,
+    Offer,
+    Await,
+    Wait,
+    Row,
+    Rows,
+}
+
+/// The numbers of the words for the channel, the place, the wait, the row, and the other row.
+type Parts = (usize, usize, usize, usize, usize);
+
+const NO_PARTS: Parts = (NOWHERE, NOWHERE, NOWHERE, NOWHERE, NOWHERE);
+
+/// Those of each form.
+const PARTS: [Parts; 8] = [
+    NO_PARTS,
+    (2, NOWHERE, NOWHERE, NOWHERE, NOWHERE),
+    (2, 3, NOWHERE, NOWHERE, NOWHERE),
+    (2, 3, 5, NOWHERE, NOWHERE),
+    (2, 3, 4, NOWHERE, NOWHERE),
+    (NOWHERE, NOWHERE, 2, NOWHERE, NOWHERE),
+    (NOWHERE, NOWHERE, NOWHERE, 2, NOWHERE),
+    (NOWHERE, NOWHERE, NOWHERE, 2, 4),
+];
+
+const NO_SAYING: (Fact, Form, Option<State>) = (Fact::Nothing, Form::Other, None);
+
+/// What each verb says, which words its lines have, and the state that it brings the Job of its row to.
+const SAYINGS: [(Fact, Form, Option<State>); 32] = [
+    (Fact::Brings, Form::Place, None),
+    (Fact::Brings, Form::Place, None),
+    (Fact::Brings, Form::Offer, None),
+    (Fact::Awaits, Form::Await, None),
+    (Fact::Takes, Form::Place, None),
+    (Fact::Admits, Form::Place, None),
+    (Fact::GivesUp, Form::Place, None),
+    (Fact::GivesUp, Form::Place, None),
+    (Fact::GivesUp, Form::Place, None),
+    (Fact::Wakes, Form::Place, None),
+    (Fact::Closes, Form::Channel, None),
+    (Fact::Nothing, Form::Channel, None),
+    (Fact::Nothing, Form::Channel, None),
+    (Fact::Nothing, Form::Channel, None),
+    (Fact::Nothing, Form::Channel, None),
+    (Fact::Settles, Form::Wait, None),
+    (Fact::Nothing, Form::Wait, None),
+    (Fact::Late, Form::Wait, None),
+    (Fact::Starts, Form::Row, Some(State::Active)),
+    (Fact::Nothing, Form::Row, Some(State::Completing)),
+    (Fact::Nothing, Form::Row, None),
+    (Fact::Nothing, Form::Row, None),
+    (Fact::Nothing, Form::Row, None),
+    (Fact::Attaches, Form::Rows, Some(State::Active)),
+    (Fact::Cancels, Form::Rows, Some(State::Cancelling)),
+    (Fact::Finishes, Form::Row, Some(State::Failed)),
+    (Fact::Attaches, Form::Rows, Some(State::Active)),
+    (Fact::Attaches, Form::Rows, Some(State::New)),
+    (Fact::Cancels, Form::Rows, Some(State::Cancelling)),
+    (Fact::Cancels, Form::Rows, Some(State::Cancelling)),
+    (Fact::Finishes, Form::Row, Some(State::Completed)),
+    (Fact::Finishes, Form::Row, Some(State::Cancelled)),
+];
+
+/// Which lines stand above which others, by the ways to them from a line with this verb.
+pub(crate) const CAUSES: [(Verb, Way, Way); 31] = [
+    (Verb::Hand, Way::Awaited, Way::Here),
+    (Verb::Offer, Way::Sent, Way::Settled),
+    (Verb::Offer, Way::Sent, Way::Late),
+    (Verb::Await, Way::Received, Way::Settled),
+    (Verb::Await, Way::Received, Way::Late),
+    (Verb::Take, Way::Brought, Way::Here),
+    (Verb::Take, Way::Admitted, Way::Here),
+    (Verb::Admit, Way::Brought, Way::Here),
+    (Verb::Drop, Way::Brought, Way::Here),
+    (Verb::Spurn, Way::Brought, Way::Here),
+    (Verb::Drain, Way::Brought, Way::Here),
+    (Verb::WakeClosed, Way::Awaited, Way::Here),
+    (Verb::SendClosed, Way::Closed, Way::Here),
+    (Verb::TrySendClosed, Way::Closed, Way::Here),
+    (Verb::ReceiveClosed, Way::Closed, Way::Here),
+    (Verb::TryReceiveClosed, Way::Closed, Way::Here),
+    (Verb::Start, Way::Here, Way::Begun),
+    (Verb::EndBody, Way::Here, Way::Finished),
+    (Verb::Gone, Way::Here, Way::ParentFinished),
+    (Verb::Saw, Way::Cancelled, Way::Here),
+    (Verb::SawEnd, Way::Finished, Way::Here),
+    (Verb::Attach, Way::Here, Way::Cancelled),
+    (Verb::Attach, Way::Here, Way::Started),
+    (Verb::AttachPlain, Way::Here, Way::Begun),
+    (Verb::AttachPlain, Way::Here, Way::Cancelled),
+    (Verb::AttachPlain, Way::Here, Way::Started),
+    (Verb::AttachLazy, Way::Here, Way::Begun),
+    (Verb::AttachLazy, Way::Here, Way::Cancelled),
+    (Verb::AttachLazy, Way::Here, Way::Started),
+    (Verb::CancelByChild, Way::OtherCancelled, Way::Here),
+    (Verb::CancelByParent, Way::ParentCancelled, Way::Here),
+];
+
+/// The arrows that a line with this verb tells of, besides that of the element that it brought.
+pub(crate) const ARROWS: [(Verb, Way, Way, Look); 5] = [
+    (Verb::Offer, Way::Sent, Way::Settled, Look::Joins),
+    (Verb::WakeClosed, Way::Here, Way::GoneOn, Look::Joins),
+    (Verb::Start, Way::Here, Way::Begun, Look::Joins),
+    (Verb::Saw, Way::Cancelled, Way::Here, Look::Cancels),
+    (Verb::AttachPlain, Way::Here, Way::Begun, Look::Joins),
+];
+
+/// The ways to the line that got the element that a line brought, to that which resolved the wait that it placed or withdrew, and to that
+/// which tells whom it concerns, and what of that.
+pub(crate) type Links = (Way, Way, Way, Of);
+
+const NO_LINKS: Links = (Way::Nowhere, Way::Nowhere, Way::Here, Of::Own);
+
+const TO_SUBJECT: Links = (Way::Nowhere, Way::Nowhere, Way::Here, Of::Subject);
+
+/// Those of each verb.
+const LINKS: [Links; 32] = [
+    (Way::GoneOn, Way::Nowhere, Way::Awaited, Of::Own),
+    (Way::Taken, Way::Nowhere, Way::Here, Of::Own),
+    (Way::Taken, Way::Sent, Way::Here, Of::Own),
+    (Way::Nowhere, Way::Received, Way::Here, Of::Own),
+    NO_LINKS,
+    (Way::Nowhere, Way::Nowhere, Way::Brought, Of::Own),
+    NO_LINKS,
+    NO_LINKS,
+    NO_LINKS,
+    (Way::Nowhere, Way::Nowhere, Way::Awaited, Of::Own),
+    NO_LINKS,
+    NO_LINKS,
+    NO_LINKS,
+    NO_LINKS,
+    NO_LINKS,
+    NO_LINKS,
+    (Way::Nowhere, Way::Here, Way::Here, Of::Own),
+    NO_LINKS,
+    TO_SUBJECT,
+    NO_LINKS,
+    (Way::Nowhere, Way::Nowhere, Way::Attached, Of::Other),
+    NO_LINKS,
+    NO_LINKS,
+    TO_SUBJECT,
+    TO_SUBJECT,
+    NO_LINKS,
+    TO_SUBJECT,
+    TO_SUBJECT,
+    TO_SUBJECT,
+    TO_SUBJECT,
+    NO_LINKS,
+    NO_LINKS,
+];
+
+/// The number of a word among these; that of nowhere, if it is none of them.
+fn number_among(names: &[&[u8]], word: &[u8]) -> usize {
+    for (number, name) in names.iter().enumerate() {
+        if word == *name {
             return number;
         }
     }
     NOWHERE
 }
 
-/// The verb with this number.
-fn verb_at(number: usize) -> &'static Verb {
-    if number < VERBS.len() {
-        &VERBS[number]
+/// The number of the verb of a line of these words; that of nowhere, if it is none of them.
+fn verb_number<'a>(words: &[&'a [u8]]) -> usize {
+    let word: &'a [u8] = at(words, 1, b"");
+    let verb = number_among(&NAMES, word);
+    let how_at = if verb == Verb::Attach as usize { 7 } else { 3 };
+    let how_word: &'a [u8] = at(words, how_at, b"");
+    let how = number_among(&HOWS, how_word);
+    if verb == at(&OF_HOWS, how, Verb::AttachPlain) as usize {
+        how.saturating_add(NAMES.len())
     } else {
-        &NO_VERB
+        verb
     }
+}
+
+/// What the verb of a line says.
+#[derive(Clone, Copy)]
+pub(crate) struct Saying {
+    /// The number of the verb; that of nowhere, if it is none of them.
+    pub(crate) number: usize,
+    /// Whether it attaches the Job of a coroutine, and not that of a scope.
+    pub(crate) launches: bool,
+    /// Whether it places a wait.
+    pub(crate) waits: bool,
 }
 
 /// The line of a book, taken apart. What its verb does not have is 0, or empty.
@@ -464,7 +403,7 @@ pub(crate) struct Note<'a> {
     pub(crate) text: &'a [u8],
     /// The coroutine.
     pub(crate) tag: u32,
-    pub(crate) verb: &'static Verb,
+    pub(crate) verb: Saying,
     /// The channel and the place.
     pub(crate) channel: &'a [u8],
     pub(crate) place: &'a [u8],
@@ -478,17 +417,15 @@ pub(crate) struct Note<'a> {
     pub(crate) cancelled: bool,
 }
 
-/// What no line says. The Job that none attached is the root's, which is that of a coroutine.
-const NO_LINE: Verb = Verb {
-    launches: true,
-    ..OTHER
-};
-
-/// That of no line: its words are such as no line has.
+/// That of no line: its words are such as no line has. The Job that none attached is the root's, which is that of a coroutine.
 pub(crate) const NO_NOTE: Note<'static> = Note {
     text: b"",
     tag: u32::MAX,
-    verb: &NO_LINE,
+    verb: Saying {
+        number: NOWHERE,
+        launches: true,
+        waits: false,
+    },
     channel: b" ",
     place: b" ",
     wait: b" ",
@@ -504,18 +441,24 @@ fn number_at<'a>(words: &[&'a [u8]], i: usize) -> u32 {
 
 /// Takes the line of a book apart.
 pub(crate) fn note_of<'a>(tag: u32, text: &'a [u8], words: &[&'a [u8]]) -> Note<'a> {
-    let verb = verb_at(verb_number(words));
-    let parts = verb.parts;
+    let number = verb_number(words);
+    let (fact, form, _) = at(&SAYINGS, number, NO_SAYING);
+    let (channel, place, wait, row, other) = at(&PARTS, form as usize, NO_PARTS);
     Note {
         text,
         tag,
-        verb,
-        channel: at(words, parts.channel, b""),
-        place: at(words, parts.place, b""),
-        wait: at(words, parts.wait, b""),
-        row: number_at(words, parts.row),
-        other: number_at(words, parts.other),
-        cancelled: matches!(verb.fact, Fact::Attaches) && words.len() > 8,
+        verb: Saying {
+            number,
+            launches: (number == Verb::AttachPlain as usize)
+                | (number == Verb::AttachLazy as usize),
+            waits: (number == Verb::Offer as usize) | (number == Verb::Await as usize),
+        },
+        channel: at(words, channel, b""),
+        place: at(words, place, b""),
+        wait: at(words, wait, b""),
+        row: number_at(words, row),
+        other: number_at(words, other),
+        cancelled: matches!(fact, Fact::Attaches) && words.len() > 8,
     }
 }
 
@@ -534,10 +477,15 @@ impl<'a> Note<'a> {
     /// The state that it brings the Job of its row to, if it does.
     pub(crate) fn state(&self) -> Option<State> {
         if self.cancelled {
-            Some(State::Cancelling)
-        } else {
-            self.verb.state
+            return Some(State::Cancelling);
         }
+        let (_, _, state) = at(&SAYINGS, self.verb.number, NO_SAYING);
+        state
+    }
+
+    /// The ways from the line to others.
+    pub(crate) fn links(&self) -> Links {
+        at(&LINKS, self.verb.number, NO_LINKS)
     }
 
     /// This fact, of what the line says it of. A line about a row has no channel and no place.
@@ -551,8 +499,13 @@ impl<'a> Note<'a> {
         }
     }
 
-    /// What it says itself.
+    /// What it says itself; of a wait it settles it, or comes late.
     pub(crate) fn said(&self) -> Key<'a> {
-        self.key(self.verb.fact, self.verb.parts.of)
+        let (fact, _, _) = at(&SAYINGS, self.verb.number, NO_SAYING);
+        let of = match fact {
+            Fact::Settles | Fact::Late => Of::Wait,
+            _ => Of::Subject,
+        };
+        self.key(fact, of)
     }
 }

@@ -1,10 +1,10 @@
 //! The lines that are drawn, each in its row.
 
-ghost use Rattle.std.specs.Prelude.{◌≡◌, IfOk, IfSome, ◌&&◌, not, OnOk, [], ◌∷◌, ◌++◌, ◌<◌, filter, length, true};
-ghost use Rattle.std.specs.Option.{option_copied};
+ghost use Rattle.std.specs.Prelude.{◌≡◌, IfOk, IfSome, Some, ◌&&◌, not, OnOk, [], ◌∷◌, ◌++◌, ◌<◌, filter, length, true};
+ghost use Rattle.std.specs.Option.{is_some, option_copied};
 ghost use Rattle.report_reader.specs.Reading.{told, told_lines};
 ghost use Rattle.report_picture.specs.Order.{StandFrom};
-ghost use Rattle.report_picture.specs.Pictures.{EndsAbove, StandInColumns, StandInOrder, is_drawn, is_left_out, is_target, is_within, lines_in};
+ghost use Rattle.report_picture.specs.Pictures.{EndsAbove, StandInColumns, StandInOrder, column_of, is_drawn, is_left_out, is_target, is_within, lines_in};
 
 use crate::arranged::Books;
 use crate::columns::Wanted;
@@ -27,7 +27,7 @@ fn is_left_out(wanted: Wanted, line: &[u8]) -> bool
 pub(crate) fn is_drawn(wanted: Wanted, tags: &[u32], line: Line) -> bool
     ensures { result ≡ is_drawn wanted tags.now (told line.entry) }
 {
-    !is_left_out(wanted, line.text) && column_of(line.said, tags).is_some()
+    column_at(wanted, tags, line).is_some()
 }
 
 /// This row, or the next below a line, if that stands in the same column and not above it.
@@ -74,8 +74,40 @@ fn row_for(drawn: &[Drawn], as_told: bool, column: usize, row: u32) -> Result<u3
     }
 }
 
+/// The column of a line, if it is drawn.
+fn column_at(wanted: Wanted, tags: &[u32], line: Line) -> Option<usize>
+    ensures is { is_some result ≡ is_drawn wanted tags.now (told line.entry) }
+    ensures column { IfSome result (λ column. column_of tags.now line.entry.said ≡ Some column) }
+{
+    if is_left_out(wanted, line.text) {
+        return None;
+    }
+    column_of(line.said, tags)
+}
+
+/// The line with this number, drawn in this column and this row.
+fn drawn_at<'a>(
+    books: Books<'_, 'a>,
+    number: usize,
+    line: Line<'a>,
+    column: usize,
+    row: u32,
+) -> Drawn<'a>
+    ensures line { result.line ≡ line.entry }
+    ensures column { result.column ≡ column }
+    ensures row { result.row ≡ row }
+    ensures target { is_target books.entry.tags.now result.target ≡ true }
+{
+    Drawn {
+        column,
+        row,
+        target: among(books.tags, target_at(books.told, number)),
+        line,
+        source: books.names.source_at(number),
+    }
+}
+
 /// Adds the line with this number, if it is drawn.
-#[tactic(auto, using(crate::proofs::Placing::columns_more, crate::proofs::Placing::order_more, crate::proofs::Placing::rows_more))]
 fn push_drawn<'a>(
     drawn: &mut Vec<Drawn<'a>>,
     books: Books<'_, 'a>,
@@ -93,47 +125,37 @@ fn push_drawn<'a>(
     ensures order { OnOk result (StandInOrder drawn.new.items) }
     ensures rows { OnOk result (as_told ≡ true → StandFrom 0 drawn.new.items) }
 {
-    if is_left_out(books.wanted, line.text) {
-        return Ok(());
-    }
-    let Some(column) = column_of(line.said, books.tags) else {
+    let Some(column) = column_at(books.wanted, books.tags, line) else {
         return Ok(());
     };
     let row = row_for(drawn.as_slice(), as_told, column, at(rows, number, 0))?;
-    let target = among(books.tags, target_at(books.told, number));
-    drawn.push(Drawn {
-        column,
-        row,
-        target,
-        line,
-        source: books.names.source_at(number),
-    })?;
+    drawn.push(drawn_at(books, number, line, column, row))?;
     Ok(())
 }
 
-/// The lines of the books of the coroutines that have a column: as told, one below another; else each in the row that is given for it, or,
-/// where that would not stand below the line before it in its book, in the next row.
-pub(crate) fn drawn_in<'a>(
-    alloc: Global,
+/// Puts the lines of the books of the coroutines that have a column in place of what was there: as told, one below another; else each in
+/// the row that is given for it, or, where that would not stand below the line before it in its book, in the next row.
+pub(crate) fn draw_all<'a>(
+    drawn: &mut Vec<Drawn<'a>>,
     books: Books<'_, 'a>,
     rows: &[u32],
     as_told: bool,
-) -> Result<Vec<Drawn<'a>>, Memory>
-    ensures once { IfOk result (λ drawn.
-        lines_in drawn.items ≡ filter (is_drawn books.entry.wanted books.entry.tags.now) (told_lines books.entry.lines.now)) }
-    ensures columns { IfOk result (λ drawn. StandInColumns books.entry.tags.now drawn.items) }
-    ensures order { IfOk result (λ drawn. StandInOrder drawn.items) }
-    ensures rows { IfOk result (λ drawn. as_told ≡ true → StandFrom 0 drawn.items) }
+) -> Result<(), Memory>
+    ensures once { OnOk result (lines_in drawn.new.items
+        ≡ filter (is_drawn books.entry.wanted books.entry.tags.now) (told_lines books.entry.lines.now)) }
+    ensures columns { OnOk result (StandInColumns books.entry.tags.now drawn.new.items) }
+    ensures order { OnOk result (StandInOrder drawn.new.items) }
+    ensures rows { OnOk result (as_told ≡ true → StandFrom 0 drawn.new.items) }
 {
-    let mut drawn: Vec<Drawn<'a>> = Vec::new(alloc);
+    drawn.clear();
     let mut rest = books.lines;
     let mut number = 0usize;
     while let [line, more @ ..] = rest {
-        push_drawn(&mut drawn, books, rows, as_told, number, *line)?;
+        push_drawn(drawn, books, rows, as_told, number, *line)?;
         number = number.saturating_add(1);
         rest = more;
     }
-    Ok(drawn)
+    Ok(())
 }
 
 /// Whether a row is between those asked for.

@@ -1,6 +1,5 @@
 //! Where the lines stand that the lines of a picture presuppose.
 
-use crate::arranged::Books;
 use crate::keyed::Numbers;
 use crate::notes::{Fact, Note, Of};
 use crate::sources::{Sources, Standing};
@@ -12,7 +11,7 @@ use std::alloc::{AllocError, Global};
 const NO_STANDING: Standing = Standing::InReport(NOWHERE);
 
 /// Where a line stands: in the picture, if it is drawn, as the next there.
-fn standing_of(is_drawn: bool, next: usize, number: usize) -> Standing {
+pub(crate) fn standing_of(is_drawn: bool, next: usize, number: usize) -> Standing {
     if is_drawn {
         Standing::InPicture(next)
     } else {
@@ -22,7 +21,8 @@ fn standing_of(is_drawn: bool, next: usize, number: usize) -> Standing {
 
 /// The line that resolved the wait of this line, if it placed or withdrew one and one did.
 fn resolved_by<'a>(told: &BookLines<'a>, number: usize) -> usize {
-    told.find(told.note(number).verb.resolved, number)
+    let (_, way, _, _) = told.note(number).links();
+    told.find(way, number)
 }
 
 /// Whether the line that resolved the wait of one line stands above that of another, if there is one.
@@ -35,20 +35,10 @@ fn is_first<'a>(told: &BookLines<'a>, rows: &[u32], number: usize, known: usize)
     }
 }
 
-/// Tells of each line of the books where it stands, and of each wait the line that placed or withdrew it and was resolved: of several
-/// the one for which that stands topmost.
-fn add_standings<'a>(
-    standings: &mut Gathered<Standing>,
-    resolved: &mut Numbers<&'a [u8]>,
-    books: Books<'_, 'a>,
-    rows: &[u32],
-) {
-    let mut next = 0usize;
-    for (number, note) in books.told.notes.as_slice().iter().enumerate() {
-        let is_drawn = books.is_drawn(note);
-        standings.add(standing_of(is_drawn, next, number));
-        next = next.saturating_add(usize::from(is_drawn));
-        if is_first(books.told, rows, number, resolved.at(note.wait)) {
+/// Tells of each wait the line that placed or withdrew it and was resolved: of several the one for which that stands topmost.
+fn add_resolved<'a>(resolved: &mut Numbers<&'a [u8]>, told: &BookLines<'a>, rows: &[u32]) {
+    for (number, note) in told.notes.as_slice().iter().enumerate() {
+        if is_first(told, rows, number, resolved.at(note.wait)) {
             resolved.put(note.wait, number);
         }
     }
@@ -56,6 +46,11 @@ fn add_standings<'a>(
 
 fn row_of(rows: &[u32], number: usize) -> u32 {
     at(rows, number, u32::MAX)
+}
+
+/// Whether a line stands in the picture.
+pub(crate) fn is_seen(standings: &[Standing], number: usize) -> bool {
+    matches!(standing_at(standings, number), Standing::InPicture(_))
 }
 
 fn standing_at(standings: &[Standing], number: usize) -> Standing {
@@ -81,28 +76,28 @@ fn sources_of<'a>(
 /// Adds those of the lines that are drawn.
 fn add_sources<'a>(
     sources: &mut Gathered<Sources>,
-    books: Books<'_, 'a>,
+    told: &BookLines<'a>,
     standings: &[Standing],
     resolved: &Numbers<&'a [u8]>,
 ) {
-    for note in books.told.notes.as_slice() {
-        if books.is_drawn(note) {
-            sources.add(sources_of(books.told, note, standings, resolved.at(note.wait)));
+    for (number, note) in told.notes.as_slice().iter().enumerate() {
+        if is_seen(standings, number) {
+            sources.add(sources_of(told, note, standings, resolved.at(note.wait)));
         }
     }
 }
 
-/// Where the lines stand that the lines of a picture presuppose, by the rows of the lines of the books.
+/// Where the lines stand that the lines of a picture presuppose, by where the lines of the books stand and by their rows.
 pub(crate) fn sources_in<'a>(
     alloc: Global,
-    books: Books<'_, 'a>,
+    told: &BookLines<'a>,
+    standings: &[Standing],
     rows: &[u32],
 ) -> Result<Vec<Sources>, AllocError> {
-    let mut standings = Gathered::new(alloc);
     let mut resolved = Numbers::new(alloc);
+    add_resolved(&mut resolved, told, rows);
     let mut sources = Gathered::new(alloc);
-    add_standings(&mut standings, &mut resolved, books, rows);
-    add_sources(&mut sources, books, standings.as_slice(), &resolved);
-    sources.full = sources.full | standings.full | resolved.full;
+    add_sources(&mut sources, told, standings, &resolved);
+    sources.full = sources.full | resolved.full;
     sources.whole()
 }

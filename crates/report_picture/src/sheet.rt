@@ -1,17 +1,31 @@
-//! What the marks are made of.
+//! Where the lines of the books are drawn.
 
-use crate::arranged::{Arranged, Books};
+use crate::arranged::Books;
 use crate::layout::{HALF, row_y};
+use crate::marks::untitled;
 use crate::picture::{Column, Title};
-use gathered::{NOWHERE, at};
+use gathered::{Gathered, NOWHERE, at};
 use picture_parts::column_of;
 use report_reader::Said;
+use std::alloc::Global;
 
-/// The lines of the books, what they say, and where they are drawn.
+/// A line of the books where it is drawn.
+#[derive(Clone, Copy)]
+pub(crate) struct Seat<'a> {
+    /// Its row; of one that is not drawn that of the next line below.
+    pub(crate) row: u32,
+    /// The number of its column; that of nowhere, if it is not drawn.
+    pub(crate) column: usize,
+    /// What a reader is shown of it.
+    pub(crate) title: Title<'a>,
+}
+
+/// The lines of the books where they are drawn, each by its number, the columns, and what of them is in the picture.
 #[derive(Clone, Copy)]
 pub(crate) struct Sheet<'s, 'a> {
-    pub(crate) books: Books<'s, 'a>,
-    pub(crate) arranged: &'s Arranged<'a>,
+    pub(crate) seats: &'s [Seat<'a>],
+    /// The coroutines that have a column.
+    pub(crate) tags: &'s [u32],
     pub(crate) columns: &'s [Column],
     /// The row that is drawn first, and the one behind the last that is drawn.
     pub(crate) first: u32,
@@ -27,10 +41,46 @@ pub(crate) const NO_COLUMN: Column = Column {
     text: 0,
 };
 
+/// The number of a coroutine's column among those of these; that of nowhere, if it has none.
+fn column_in(tags: &[u32], tag: u32) -> usize {
+    column_of(Said::Note(tag), tags).unwrap_or(NOWHERE)
+}
+
+/// Where a line of the books is drawn, by its number and its row.
+fn seat_of<'a>(books: &Books<'_, 'a>, number: usize, row: u32) -> Seat<'a> {
+    let note = books.told.note(number);
+    let column = if books.is_drawn(&note) {
+        column_in(books.tags, note.tag)
+    } else {
+        NOWHERE
+    };
+    Seat {
+        row,
+        column,
+        title: Title {
+            line: note.text,
+            source: books.names.source_at(number),
+        },
+    }
+}
+
+/// Where the lines of the books are drawn, which stand in these rows.
+pub(crate) fn seats_of<'a>(
+    alloc: Global,
+    books: &Books<'_, 'a>,
+    rows: &[u32],
+) -> Gathered<Seat<'a>> {
+    let mut seats = Gathered::new(alloc);
+    for (number, row) in rows.iter().enumerate() {
+        seats.add(seat_of(books, number, *row));
+    }
+    seats
+}
+
 impl<'s, 'a> Sheet<'s, 'a> {
     /// The number of a coroutine's column; that of nowhere, if it has none.
     pub(crate) fn column(&self, tag: u32) -> usize {
-        column_of(Said::Note(tag), self.books.tags).unwrap_or(NOWHERE)
+        column_in(self.tags, tag)
     }
 
     /// Where the bar of a column begins from the left.
@@ -38,37 +88,19 @@ impl<'s, 'a> Sheet<'s, 'a> {
         at(self.columns, column, NO_COLUMN).left
     }
 
-    /// The column of a line, if it is drawn.
-    pub(crate) fn column_at(&self, number: usize) -> usize {
-        let note = self.books.told.note(number);
-        if number < self.books.told.notes.len() && self.books.is_drawn(&note) {
-            self.column(note.tag)
-        } else {
-            NOWHERE
-        }
-    }
-
-    /// The text of a line.
-    pub(crate) fn text_at(&self, number: usize) -> &'a [u8] {
-        self.books.told.note(number).text
-    }
-
-    /// What a reader is shown of a line.
-    pub(crate) fn title_at(&self, number: usize) -> Title<'a> {
-        Title {
-            line: self.text_at(number),
-            source: self.books.names.source_at(number),
-        }
-    }
-
-    /// The row of a line, and of one that is not drawn that of the next line below; behind the last line that of the picture's end.
-    pub(crate) fn row(&self, number: usize) -> u32 {
-        at(self.arranged.rows.as_slice(), number, self.until)
+    /// Where a line is drawn; one that is not there has the row behind the last, no column and no title.
+    pub(crate) fn seat(&self, number: usize) -> Seat<'a> {
+        let none = Seat {
+            row: self.until,
+            column: NOWHERE,
+            title: untitled(),
+        };
+        at(self.seats, number, none)
     }
 
     /// Whether the row of a line is drawn.
     pub(crate) fn is_seen(&self, number: usize) -> bool {
-        let row = self.row(number);
+        let row = self.seat(number).row;
         self.first <= row && row < self.until
     }
 
@@ -79,7 +111,7 @@ impl<'s, 'a> Sheet<'s, 'a> {
 
     /// Where the middle of a line's row is from the top; the edge of the rows, if its row is not drawn.
     pub(crate) fn y(&self, number: usize) -> u64 {
-        let row = self.row(number);
+        let row = self.seat(number).row;
         if row < self.first {
             row_y(self.top, 0).saturating_sub(HALF)
         } else {

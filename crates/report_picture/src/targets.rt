@@ -8,9 +8,8 @@ use gathered::NOWHERE;
 /// whom it wakes, attaches, starts or cancels, and the parent that it tells.
 pub(crate) fn target_at<'a>(told: &BookLines<'a>, here: usize) -> Option<u32> {
     let note = told.note(here);
-    let verb = note.verb;
-    let (steps, of) = verb.target;
-    let number = told.find(steps, here);
+    let (_, _, way, of) = note.links();
+    let number = told.find(way, here);
     let (_, target, _, _) = told.note(number).key(Fact::Nothing, of);
     if number == NOWHERE || target == note.tag {
         None

@@ -1,7 +1,7 @@
 //! What the lines of the books say, and which of them says what of a place, a wait, a channel and a row.
 
 use crate::keyed::Numbers;
-use crate::notes::{Fact, Key, NO_NOTE, Note, Of, Step, Steps, note_of};
+use crate::notes::{Fact, Key, NO_NOTE, Note, Of, Way, first_on, note_of};
 use gathered::{Gathered, NOWHERE, at};
 use report_reader::{Line, Said, words_of};
 use std::alloc::{AllocError, Global};
@@ -49,67 +49,67 @@ impl<'a> BookLines<'a> {
         note.verb.waits && !(note.tag == last.tag && note.wait == last.wait)
     }
 
-    fn step(&self, step: Step, number: usize) -> usize {
-        let (facts, of) = step;
+    /// The line to which a way leads first from a line.
+    fn first(&self, way: Way, number: usize) -> usize {
+        let (fact, of, or, or_else) = first_on(way);
         let note = self.note(number);
-        let mut found = NOWHERE;
-        for fact in facts {
-            found = first_of(found, self.said(*fact, of, &note));
+        let found = self.said(fact, of, &note);
+        if found != NOWHERE || matches!(or, Fact::Nothing) {
+            return found;
         }
-        found
+        first_of(self.said(or, of, &note), self.said(or_else, of, &note))
     }
 
-    /// The line to which these steps lead from a line, if they do.
-    pub(crate) fn find(&self, steps: Steps, number: usize) -> usize {
-        let mut found = number;
-        for step in steps {
-            found = self.step(*step, found);
-        }
-        found
-    }
-
-    /// Tells what a line says of its coroutine, and what else it says.
-    fn see(&mut self, number: usize, note: &Note<'a>) {
-        let first = note.key(Fact::First, Of::Own);
-        let known = self.lines.at(first);
-        self.lines.put(first, first_of(known, number));
-        self.lines.put(note.key(Fact::Last, Of::Own), number);
-        self.lines.put(note.said(), number);
-        if note.cancelled {
-            self.lines.put(note.key(Fact::Cancels, Of::Subject), number);
+    /// The line to which a way leads from a line, if it does.
+    pub(crate) fn find(&self, way: Way, number: usize) -> usize {
+        match way {
+            Way::Here => number,
+            Way::Nowhere => NOWHERE,
+            Way::GoneOn => self.first(Way::Settled, self.first(way, number)),
+            Way::ParentCancelled => self.first(Way::OtherCancelled, self.first(way, number)),
+            Way::ParentFinished => self.first(Way::OtherFinished, self.first(way, number)),
+            _ => self.first(way, number),
         }
     }
+}
 
-    /// Takes a line apart, if it stands in a book.
-    fn add_line(&mut self, words: &mut Vec<&'a [u8]>, line: Line<'a>) {
+/// Takes the lines apart that stand in books.
+fn add_notes<'a>(alloc: Global, notes: &mut Gathered<Note<'a>>, lines: &[Line<'a>]) {
+    let mut words = Vec::new(alloc);
+    for line in lines {
         if let Said::Note(tag) = line.said {
-            let is_missing = words_of(words, line.text).is_err();
-            self.notes.full = self.notes.full | is_missing;
-            let note = note_of(tag, line.text, words.as_slice());
-            let number = self.notes.len();
-            self.see(number, &note);
-            self.notes.add(note);
+            notes.full = notes.full | words_of(&mut words, line.text).is_err();
+            notes.add(note_of(tag, line.text, words.as_slice()));
         }
     }
+}
 
-    fn add_lines(&mut self, alloc: Global, lines: &[Line<'a>]) {
-        let mut words = Vec::new(alloc);
-        for line in lines {
-            self.add_line(&mut words, *line);
-        }
+/// Tells what a line says of its coroutine, and what else it says.
+fn see<'a>(lines: &mut Numbers<Key<'a>>, number: usize, note: &Note<'a>) {
+    lines.put_first(note.key(Fact::First, Of::Own), number);
+    lines.put(note.key(Fact::Last, Of::Own), number);
+    lines.put(note.said(), number);
+    if note.cancelled {
+        lines.put(note.key(Fact::Cancels, Of::Subject), number);
+    }
+}
+
+/// Tells of lines what they say.
+fn see_all<'a>(lines: &mut Numbers<Key<'a>>, notes: &[Note<'a>]) {
+    for (number, note) in notes.iter().enumerate() {
+        see(lines, number, note);
     }
 }
 
 /// What the lines of the books say.
 pub(crate) fn told_in<'a>(alloc: Global, lines: &[Line<'a>]) -> Result<BookLines<'a>, AllocError> {
-    let mut told = BookLines {
-        notes: Gathered::new(alloc),
-        lines: Numbers::new(alloc),
-    };
-    told.add_lines(alloc, lines);
-    if told.notes.full | told.lines.full {
+    let mut notes = Gathered::new(alloc);
+    add_notes(alloc, &mut notes, lines);
+    let mut told = Numbers::new(alloc);
+    see_all(&mut told, notes.as_slice());
+    if notes.full | told.full {
         Err(AllocError)
     } else {
-        Ok(told)
+        Ok(BookLines { notes, lines: told })
     }
 }

@@ -1,6 +1,6 @@
 use Rattle.report_picture.specs.Pictures.{is_drawn, lines_in}
 use Rattle.report_picture.proofs.Placing.{kept_rest}
-use Rattle.report_picture.proofs.placed.drawn_in.Goals as goal
+use Rattle.report_picture.proofs.placed.draw_all.Goals as goal
 
 pub loop-rest-preserved : goal.loop-rest-preserved
 loop-rest-preserved c = record {

@@ -2,7 +2,7 @@ use Rattle.std.proofs.Common.{◌≡◌, ◌++◌, filter, length, true}
 use Rattle.report_reader.specs.Reading.{told_lines}
 use Rattle.report_picture.specs.Order.{StandFrom}
 use Rattle.report_picture.specs.Pictures.{StandInColumns, StandInOrder, is_drawn, lines_in}
-use Rattle.report_picture.proofs.placed.drawn_in.Given as goal
+use Rattle.report_picture.proofs.placed.draw_all.Given as goal
 
 abbrev pub invariant-loop-rest : goal.invariant-loop-rest
 invariant-loop-rest l = record {

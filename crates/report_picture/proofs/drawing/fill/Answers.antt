@@ -1,0 +1,15 @@
+use Rattle.std.proofs.Common.{◌∙◌, ◌++◌, ap, List, filter, map}
+use Rattle.report_reader.specs.Reading.{told, told_lines}
+use Rattle.report_picture.specs.declared.picture.Drawn.{Drawn}
+use Rattle.report_picture.specs.declared.picture.Lost.{Lost}
+use Rattle.report_picture.specs.Pictures.{is_element, is_within}
+use Rattle.report_picture.proofs.drawing.fill.Goals as goal
+
+pub returns-clause-part : goal.returns-clause-part
+returns-clause-part c =
+    c.in_ok-add_part.ensures ∙ ap (λ (l : List Drawn). l ++ filter (is_within c.args.books.now.wanted) c.args.drawn.now) c.requires.lines
+
+pub returns-clause-fates : goal.returns-clause-fates
+returns-clause-fates c =
+    c.in_ok-add_lost.ensures
+    ∙ ap (λ (l : List Lost). map (λ e. told e.line) l ++ filter is_element (told_lines c.args.books.now.lines.now)) c.requires.lost
