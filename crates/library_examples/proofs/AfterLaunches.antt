@@ -1,6 +1,6 @@
 -- What stands after a launch, and at a later moment.
-use Rattle.std.specs.Prelude.{◌≡◌, ℕ, Bool, true, List, [], ◌∷◌, ◌++◌, Option, Some, is_some, Ok, refl}
-use Rattle.std.proofs.Common.{ap, ◌∙◌, subst}
+use Rattle.std.specs.Prelude.{◌≡◌, ℕ, ◌<◌, Bool, true, List, [], ◌∷◌, ◌++◌, Option, Some, is_some, Ok, refl}
+use Rattle.std.proofs.Common.{sym, ap, ◌∙◌, subst}
 use mathlib.Core.List.{IsPrefix}
 use Rattle.job_model.specs.declared.acts.JobAct.{JobAct}
 use Rattle.job_model.specs.declared.acts.JobAct.TheVariants.{Attach}
@@ -9,7 +9,7 @@ use Rattle.job_model.specs.declared.acts.End.{End}
 use Rattle.job_model.specs.declared.acts.End.TheVariants.{Completed}
 use Rattle.job_model.specs.declared.acts.JobNote.TheVariants.{SawEnd}
 use Rattle.job_model.specs.declared.floor.Attached.{Attached}
-use Rattle.job_model.specs.Trees.{Tree}
+use Rattle.job_model.specs.Trees.{Shape, Tree}
 use Rattle.job_model.specs.Histories.{replay, Legal}
 use Rattle.job_model.specs.Floors.{Floor, entries_by}
 use Rattle.job_model.proofs.Histories.{replay_push}
@@ -19,12 +19,12 @@ use Rattle.job_model.proofs.Own.{prefix_keeps}
 use Rattle.note_book.specs.declared.book.Item.{Item}
 use Rattle.note_book.specs.declared.book.Item.TheVariants.{Job}
 use Rattle.note_book.specs.Items.{job_acts_in}
-use Rattle.call_meaning.specs.Seen.{SeenOnJobs}
+use Rattle.call_meaning.specs.Seen.{SeenOnJobs, SeenOnBoth}
 use Rattle.call_meaning.specs.Telling.{did, saw_end, items_in}
 use Rattle.call_meaning.specs.JobCalls.{child_kind}
 use Rattle.call_meaning.specs.Calls.{ToldOnJobs}
 use Rattle.call_meaning.proofs.JobTellings.{acts_did}
-use Rattle.scope_builders.specs.Calls.{LaunchAnswer, SeenEndAnswer}
+use Rattle.scope_builders.specs.Calls.{LaunchAnswer, SeenEndAnswer, MayBuild}
 use Rattle.library_examples.specs.Examples.{SawCompleted}
 
 -- what a coroutine sees of the Jobs
@@ -48,6 +48,17 @@ launched_attached who me parent tag lazy a b i j child alone h =
 pub attached_later : (row : ℕ) (a b : Floor) → Legal b.shape b.seen → IsPrefix a.seen b.seen → is_some (replay a.seen row) ≡ true
     → is_some (replay b.seen row) ≡ true
 attached_later row a b l p h = prefix_keeps _ attached_lasts b.shape a.seen b.seen row l p h
+
+-- whoever might build still may, where both floors have the shapes that they had
+pub builds_again : {base base' : ℕ} {a b : SeenOnBoth} → base' ≡ base → b.channels.shape ≡ a.channels.shape → b.jobs.shape ≡ a.jobs.shape
+    → b.channels.callers b.who ≡ true → b.jobs.callers b.who ≡ true → MayBuild base a → MayBuild base' b
+builds_again {base} {base'} {a} {b} e channels jobs of_channels of_jobs m = subst (λ n. MayBuild n b) (sym e) (record {
+  of_channels = of_channels;
+  of_jobs = of_jobs;
+  done = rw channels (rw jobs m.done);
+  signals = λ r h. rw channels (m.signals r (subst (λ (s : Shape). r < s.rows) jobs h));
+  few = rw channels m.few;
+})
 
 saw_noted : (row value : ℕ) → items_in (saw_end row (Completed value) ∷ []) ≡ Job (SawEnd row (Completed value)) ∷ []
 unfolding items_in

@@ -41,7 +41,7 @@ use ring_bridge::Bells;
 use ring_waits::{by_sink_and_stream, by_two_threads, of_two_rings};
 use rings::{named_by_a_send, three_put};
 use scope_builders::{Builder, LaunchError};
-use scopes::{launch_and_cancel, scope_result};
+use scopes::launch_and_enter;
 use std::alloc::{AllocGlobal, Global};
 use std::fmt::Debug;
 use std::random::RandomSource;
@@ -118,13 +118,15 @@ fn two_jobs(alloc: Global) -> Result<u32, Memory> {
 /// The done channels of two coroutines and of one scope.
 const DONE: [(Kind, u32); 3] = [(Kind::Signal, 1), (Kind::Signal, 1), (Kind::Signal, 1)];
 
-/// A coroutine is launched, and cancelled at once.
-fn launched(alloc: Global) -> Result<u32, LaunchError> {
+/// A coroutine is launched, and cancelled at once; then a scope is entered, and its result seen.
+fn launched_and_entered(
+    alloc: Global,
+) -> (Result<u32, LaunchError>, Result<Option<Value>, LaunchError>) {
     let Ok(mut channels) = ListFloor::new(alloc, &DONE) else {
-        return Err(LaunchError::Memory);
+        return (Err(LaunchError::Memory), Err(LaunchError::Memory));
     };
     let Ok(mut jobs) = TreeFloor::new(alloc, 2, 1) else {
-        return Err(LaunchError::Memory);
+        return (Err(LaunchError::Memory), Err(LaunchError::Memory));
     };
     let mut book = Notes::new(alloc);
     let mut wakes = NOBODY;
@@ -136,28 +138,7 @@ fn launched(alloc: Global) -> Result<u32, LaunchError> {
         who: 0,
         base: 0,
     };
-    launch_and_cancel(&mut builder, 0, 1)
-}
-
-/// A scope is entered, and its result seen.
-fn entered(alloc: Global) -> Result<Option<Value>, LaunchError> {
-    let Ok(mut channels) = ListFloor::new(alloc, &DONE) else {
-        return Err(LaunchError::Memory);
-    };
-    let Ok(mut jobs) = TreeFloor::new(alloc, 2, 1) else {
-        return Err(LaunchError::Memory);
-    };
-    let mut book = Notes::new(alloc);
-    let mut wakes = NOBODY;
-    let mut builder = Builder {
-        channels: &mut channels,
-        jobs: &mut jobs,
-        book: &mut book,
-        wakes: &mut wakes,
-        who: 0,
-        base: 0,
-    };
-    scope_result(&mut builder, 0, 9)
+    launch_and_enter(&mut builder, 1, 9)
 }
 
 /// A receiver waits in the first cell and is met there; the second value finds nobody, and its cell is of no use any more.
@@ -246,8 +227,9 @@ fn tell_of_permits<R: Print>(rt: &R, alloc: Global) {
 
 fn tell_of_jobs<R: Print>(rt: &R, alloc: Global) {
     tell(rt, "two Jobs", two_jobs(alloc));
-    tell(rt, "launched", launched(alloc));
-    tell(rt, "entered", entered(alloc));
+    let (launched, entered) = launched_and_entered(alloc);
+    tell(rt, "launched", launched);
+    tell(rt, "entered", entered);
 }
 
 fn tell_of_bridges<R: Print + Wait + RandomSource + AllocGlobal>(rt: &R) {

@@ -23,7 +23,10 @@ pub(crate) fn launch_and_cancel<C: ChannelFloor, J: JobsBeside<C>, B: NoteBook, 
     requires parent { is_some (replay (J.view builder.old.jobs.now).seen parent) ≡ true }
     requires tag { tag < (J.view builder.old.jobs.now).shape.coroutines }
     requires alone { (J.view builder.old.jobs.now).alone ≡ true }
+    ensures same { SameBuilder C.anchor J.anchor builder.old builder.new }
     ensures cancelled { OnOk result (IsAllCancelled (replay (J.view builder.new.jobs.now).seen) tag) }
+    ensures may { OnOk result (MayBuild builder.new.base (seen C.view J.view B.items builder.new)) }
+    ensures shape { OnOk result ((J.view builder.new.jobs.now).shape ≡ (J.view builder.old.jobs.now).shape) }
 {
     match builder.launch(parent, tag, false) {
         Ok(child) => match builder.cancel(child.row) {
@@ -76,5 +79,24 @@ pub(crate) fn scope_result<C: ChannelFloor, J: JobsBeside<C>, B: NoteBook, W: Wa
             Err(_memory) => Err(LaunchError::Memory),
         },
         Err(error) => Err(error),
+    }
+}
+
+/// Launches a coroutine below the root and cancels it, and then enters a scope there: the answer of each. If none was launched, no scope
+/// is entered, and both say why.
+pub(crate) fn launch_and_enter<C: ChannelFloor, J: JobsBeside<C>, B: NoteBook, W: Wakes>(
+    builder: &mut Builder<'_, '_, '_, '_, C, J, B, W>,
+    tag: Tag,
+    value: Value,
+) -> (Result<u32, LaunchError>, Result<Option<Value>, LaunchError>)
+    requires may { MayBuild builder.old.base (seen C.view J.view B.items builder.old) }
+    requires tag { tag < (J.view builder.old.jobs.now).shape.coroutines }
+    requires own { builder.old.who < (J.view builder.old.jobs.now).shape.coroutines }
+    requires alone { (J.view builder.old.jobs.now).alone ≡ true }
+    ensures saw { IfOk result.1 (λ value. SawSome value (B.items builder.new.book.now)) }
+{
+    match launch_and_cancel(builder, 0, tag) {
+        Ok(count) => (Ok(count), scope_result(builder, 0, value)),
+        Err(error) => (Err(error), Err(error)),
     }
 }

@@ -76,14 +76,14 @@ fn new_passes(alloc: Global, book: &mut Notes, permits: &Permits) -> Result<(Hub
 
 /// The first of three callers holds the mutex while the second finds it taken; then the three add to the number behind it.
 /// What the second found, and the number.
-fn three_add<F: ChannelFloor, G: ChannelFloor, H: ChannelFloor, B: NoteBook, W: Wakes>(
+fn three_add<F: ChannelFloor, B: NoteBook, W: Wakes>(
     first: &mut Caller<'_, '_, '_, F, B, W>,
-    second: &mut Caller<'_, '_, '_, G, B, W>,
-    third: &mut Caller<'_, '_, '_, H, B, W>,
+    second: &mut Caller<'_, '_, '_, F, B, W>,
+    third: &mut Caller<'_, '_, '_, F, B, W>,
 ) -> Result<(bool, u32), Memory>
     requires first { UsesPermits 0 1 first.old.who 0 (F.view first.old.floor.now) }
-    requires second { UsesPermits 0 1 second.old.who 0 (G.view second.old.floor.now) }
-    requires third { UsesPermits 0 1 third.old.who 0 (H.view third.old.floor.now) }
+    requires second { UsesPermits 0 1 second.old.who 0 (F.view second.old.floor.now) }
+    requires third { UsesPermits 0 1 third.old.who 0 (F.view third.old.floor.now) }
 {
     let mut of_first = 0u32;
     let mut of_second = 0u32;
@@ -173,12 +173,12 @@ pub(crate) fn free_permits(alloc: Global, books: &mut Books) -> Result<u32, Memo
 }
 
 /// The first of two callers holds the mutex, and the second gives up waiting for it.
-fn hold_and_give_up<F: ChannelFloor, G: ChannelFloor, B: NoteBook, W: Wakes>(
+fn hold_and_give_up<F: ChannelFloor, B: NoteBook, W: Wakes>(
     holder: &mut Caller<'_, '_, '_, F, B, W>,
-    waiter: &mut Caller<'_, '_, '_, G, B, W>,
+    waiter: &mut Caller<'_, '_, '_, F, B, W>,
 ) -> Result<Option<GivenBack>, Memory>
     requires holder { UsesPermits 0 1 holder.old.who 0 (F.view holder.old.floor.now) }
-    requires waiter { UsesPermits 0 1 waiter.old.who 0 (G.view waiter.old.floor.now) }
+    requires waiter { UsesPermits 0 1 waiter.old.who 0 (F.view waiter.old.floor.now) }
 {
     let mut of_holder = 0u32;
     let mut of_waiter = 0u32;
