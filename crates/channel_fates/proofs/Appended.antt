@@ -2,7 +2,7 @@
 use Rattle.std.specs.Prelude.{◌≡◌, ℕ, ◌+◌, ◌≤◌, Bool, true, false, ◌||◌, cond, List, [], ◌∷◌, ◌++◌, Option, Some, None, refl, ◌⊎◌}
 use Rattle.std.specs.List.{list_any}
 use Rattle.std.proofs.Common.{sym, ap, ◌∙◌, arith, inl, inr, ⊎_elim}
-use Rattle.std.proofs.lemmas.Bool.{cases_lt}
+use Rattle.std.proofs.lemmas.Bool.{cases_lt, or_left}
 use Rattle.std.proofs.Math.Bool.{or-true}
 use Rattle.std.proofs.lemmas.List.Folds.{list_any-append}
 use Rattle.channel_model.specs.declared.acts.Act.{Act}
@@ -12,12 +12,8 @@ use Rattle.channel_model.specs.Laws.{how_many}
 pub any_kept : {X : Type 0} (f : X → Bool) (xs ys : List X) → list_any f xs ≡ true → list_any f (xs ++ ys) ≡ true
 any_kept f xs ys e = list_any-append f xs ys ∙ ap (λ b. b || list_any f ys) e
 
-or_first : (b : Bool) → b ≡ true → (b || false) ≡ true
-or_first true e = refl
-or_first false e = e
-
 pub any_last : {X : Type 0} (f : X → Bool) (xs : List X) (x : X) → f x ≡ true → list_any f (xs ++ x ∷ []) ≡ true
-any_last f xs x e = list_any-append f xs (x ∷ []) ∙ ap (λ b. list_any f xs || b) (or_first (f x) e) ∙ or-true (list_any f xs)
+any_last f xs x e = list_any-append f xs (x ∷ []) ∙ ap (λ b. list_any f xs || b) (or_left (f x) false e) ∙ or-true (list_any f xs)
 
 or_cases : (a b : Bool) → (a || (b || false)) ≡ true → (a ≡ true) ⊎ (b ≡ true)
 or_cases true b e = inl refl

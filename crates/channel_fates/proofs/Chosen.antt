@@ -3,6 +3,7 @@ use Rattle.std.specs.Prelude.{◌≡◌, ℕ, ◌+◌, ◌≤◌, ◌==◌, Bool
 use Rattle.std.specs.List.{list_any, AllByRecursion}
 use Rattle.std.proofs.Common.{sym, ap, ◌∙◌, subst, arith, inl, inr, ⊎_elim}
 use Rattle.std.proofs.lemmas.Bool.{eqb-true}
+use Rattle.std.proofs.lemmas.Option.{cond_some}
 use Rattle.co_base.specs.declared.names.WaitId.{WaitId}
 use Rattle.channel_model.specs.declared.acts.Act.{Act}
 use Rattle.channel_model.specs.declared.acts.Act.TheVariants.{Hand, Offer, Await, Take, Admit, Drain, WakeClosed, Withdraw}
@@ -144,16 +145,8 @@ wait_before c p acts act w g h e = by_wait (wait_at c p acts) refl
         absurd (omega (arith, how_many_push (enters c p) acts act, how_many_push (awaits c p) acts act))
 
 waiting : (c p : ℕ) (act : Act) (w : WaitId) → places_wait c p act ≡ Some w → (offers c p act ≡ true) ⊎ (awaits c p act ≡ true)
-waiting c p (Offer d q v u k) w e = by_test (is_at c p d q) e
-  where
-    by_test : (b : Bool) → (if b then Some u else None) ≡ Some w → (b ≡ true) ⊎ (false ≡ true)
-    by_test true e = inl refl
-    by_test false e = cc
-waiting c p (Await d q u k) w e = by_test (is_at c p d q) e
-  where
-    by_test : (b : Bool) → (if b then Some u else None) ≡ Some w → (false ≡ true) ⊎ (b ≡ true)
-    by_test true e = inr refl
-    by_test false e = cc
+waiting c p (Offer d q v u k) w e = inl (cond_some (is_at c p d q) u w e).0
+waiting c p (Await d q u k) w e = inr (cond_some (is_at c p d q) u w e).0
 waiting c p other w e = cc
 
 -- a place that has a wait was offered or awaited

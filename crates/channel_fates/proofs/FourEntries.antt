@@ -2,7 +2,7 @@
 use Rattle.std.specs.Prelude.{◌≡◌, ℕ, ◌+◌, ◌<◌, ◌≤◌, ◌==◌, Bool, true, false, not, ◌||◌, cond, List, [], ◌∷◌, Option, Some, None, is_none, is_some, refl, if◌then◌else◌, MatchBool}
 use Rattle.std.specs.List.{list_all}
 use Rattle.std.proofs.Common.{sym, ap, ◌∙◌, subst, arith, inl, ⊎_elim, ne_eqb}
-use Rattle.std.proofs.lemmas.Bool.{eqb-true, cases_lt, or_right}
+use Rattle.std.proofs.lemmas.Bool.{eqb-true, both_ways, cases_lt, cond_both, not_from_true, or_from, or_right}
 use Rattle.co_base.specs.declared.names.WaitId.{WaitId}
 use Rattle.channel_model.specs.declared.acts.Act.{Act}
 use Rattle.channel_model.specs.declared.acts.Act.TheVariants.{Hand, Admit}
@@ -41,19 +41,12 @@ record NoneHeld (p : ℕ) (ch : Channel) : Type 0 where
   given : p < ch.next
   free : list_all (is_free p) ch.queue ≡ true
 
-free_or : (b : Bool) (o : Standing) → (b || is_none o.holder) ≡ true → (b || true) ≡ true
-free_or true o h = refl
-free_or false o h = refl
-
 admitted_free : (p q : ℕ) (os : List Standing) → list_all (is_free p) os ≡ true → list_all (is_free p) (admitted q os) ≡ true
 admitted_free p q [] h = refl
-admitted_free p q (o ∷ os) h = by_test (admitted_free p q os (all_rest (is_free p) o os h)) (o.place == q)
-  where
-    by_test : list_all (is_free p) (admitted q os) ≡ true → (b : Bool)
-        → list_all (is_free p) (if b then record o { holder = None } ∷ os else o ∷ admitted q os) ≡ true
-    by_test rest true = all_more (is_free p) (record o { holder = None }) os (free_or (not (o.place == p)) o (all_first (is_free p) o os h))
-        (all_rest (is_free p) o os h)
-    by_test rest false = all_more (is_free p) o (admitted q os) (all_first (is_free p) o os h) rest
+admitted_free p q (o ∷ os) h =
+    cond_both (o.place == q) (record o { holder = None } ∷ os) (o ∷ admitted q os) (λ l. list_all (is_free p) l ≡ true)
+    (λ e. all_more (is_free p) (record o { holder = None }) os (or_right (not (o.place == p)) true refl) (all_rest (is_free p) o os h))
+    (λ e. all_more (is_free p) o (admitted q os) (all_first (is_free p) o os h) (admitted_free p q os (all_rest (is_free p) o os h)))
 
 elsewhere_free : (p : ℕ) (o : Standing) → (o.place ≡ p → ⊥) → is_free p o ≡ true
 elsewhere_free p o ne = ap (λ b. not b || is_none o.holder) (ne_eqb o.place p ne)
@@ -126,17 +119,13 @@ not_held : (p : ℕ) (kind : Kind) (k : ℕ) (os : List Standing) → list_all (
 not_held p kind k [] h a = a
 not_held p kind k (o ∷ os) h a = by_test (o.place == p) refl a (λ b. not_held p kind (k + 1) os (all_rest (is_free p) o os h) b)
   where
-    held : (x : Bool) (o : Standing) → x ≡ true → (not x || is_none o.holder) ≡ true → is_some o.holder ≡ true → ⊥
-    held true o e f g = some_none o.holder f g
-      where
-        some_none : {A : Type 0} (y : Option A) → is_none y ≡ true → is_some y ≡ true → ⊥
-        some_none None f g = cc
-        some_none (Some y) f g = cc
-    held false o e f g = cc
+    held : (o.place == p) ≡ true → (x : Option Party) → (not (o.place == p) || is_none x) ≡ true → is_some x ≡ true → ⊥
+    held e None f g = cc
+    held e (Some x) f g = both_ways _ (or_from _ false (not_from_true (o.place == p) e) refl) f
 
     by_test : (b : Bool) → (o.place == p) ≡ b → MatchBool b ((is_some o.holder ≡ true)
         × (is_full kind k ≡ false)) (MayBeAdmitted kind p (k + 1) os) → (MayBeAdmitted kind p (k + 1) os → ⊥) → ⊥
-    by_test true e a later = held (o.place == p) o e (all_first (is_free p) o os h) a.0
+    by_test true e a later = held e o.holder (all_first (is_free p) o os h) a.0
     by_test false e a later = later a
 
 -- so an admission leaves none held at its place

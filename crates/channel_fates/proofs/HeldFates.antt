@@ -2,7 +2,7 @@
 use Rattle.std.specs.Prelude.{◌≡◌, ℕ, ◌≤◌, ◌==◌, nat_lt, Bool, true, false, not, ◌&&◌, ◌||◌, List, [], ◌∷◌, Option, Some, None, refl, if◌then◌else◌, ◌⊎◌, ◌↔◌, is_some, is_none}
 use Rattle.std.specs.List.{list_any, AllByRecursion}
 use Rattle.std.proofs.Common.{sym, ap, ◌∙◌, subst, arith, inl, inr, ⊎_elim}
-use Rattle.std.proofs.lemmas.Bool.{eqb-true, cases_lt, or_cases, and_parts, and_from, or_left, or_right, or_parts, both_ways}
+use Rattle.std.proofs.lemmas.Bool.{eqb-true, eq-eqb, false_from_ne_true, cases_lt, or_cases, and_parts, and_from, or_left, or_right, or_parts, both_ways}
 use Rattle.std.proofs.lemmas.Bool.Decides.{nat_tests}
 use Rattle.std.proofs.Math.Bool.{or-true}
 use Rattle.co_base.specs.declared.names.WaitId.{WaitId}
@@ -19,7 +19,6 @@ use Rattle.channel_model.specs.Fates.{is_at, brings, hands, takes, admits, drops
 use Rattle.channel_model.specs.Laws.{IsStandingAt, HolderStands, OffersStand, how_many}
 use Rattle.channel_fates.specs.OneFate.{stands_in, is_unsettled, StandsOrIsUnsettled}
 use Rattle.channel_model.proofs.Waits.{same_wait-refl}
-use Rattle.channel_model.proofs.Placed.{same_number}
 use Rattle.channel_model.proofs.Resolutions.{not_open}
 use Rattle.channel_model.specs.Answers.{IsResolvedWait, IsSettledWait}
 use Rattle.channel_fates.proofs.Appended.{any_count, count_any, none_count, found, first_found, first_there}
@@ -39,12 +38,13 @@ use Rattle.channel_fates.proofs.AtMostOne.{some_wait, HandedAs, ends_as, Offered
 held_if : (r u d x w : Bool) → (r ≡ true → ⊥) → (u ≡ true → ⊥) → (d ≡ true → ⊥) → (x ≡ true → ⊥) → (w ≡ true → ⊥)
     → (if r then fate.Received else if u then fate.Undelivered else if d then fate.Dropped else if x then fate.Spurned else if w then
     fate.Withdrawn else fate.Held) ≡ fate.Held
-held_if true u d x w a b e g f = absurd (a refl)
-held_if false true d x w a b e g f = absurd (b refl)
-held_if false false true x w a b e g f = absurd (e refl)
-held_if false false false true w a b e g f = absurd (g refl)
-held_if false false false false true a b e g f = absurd (f refl)
-held_if false false false false false a b e g f = refl
+held_if r u d x w a b e g f = rw (
+  false_from_ne_true r a,
+  false_from_ne_true u b,
+  false_from_ne_true d e,
+  false_from_ne_true x g,
+  false_from_ne_true w f,
+) refl
 
 held_only : (r u d x w : Bool)
     → (if r then fate.Received else if u then fate.Undelivered else if d then fate.Dropped else if x then fate.Spurned else if w then
@@ -80,15 +80,12 @@ place_of_value p v os e = let x = found (λ (o : Standing). (o.place == p) && (o
 value_stands : (acts : List Act) (c p v : ℕ) (os : List Standing) → AllByRecursion (OfferKnown acts c) os → element_at c p acts ≡ Some v
     → place_stands p os ≡ true → stands_in p v os ≡ true
 value_stands acts c p v [] k e h = cc
-value_stands acts c p v (o ∷ os) k e h = by_test (o.place == p) refl h (value_stands acts c p v os k.1 e)
-  where
-    by_test : (b : Bool) → (o.place == p) ≡ b → (b || place_stands p os) ≡ true → (place_stands p os ≡ true → stands_in p v os ≡ true)
-        → ((b && (o.value == v)) || stands_in p v os) ≡ true
-    by_test true t h m =
-        let f : element_at c p acts ≡ Some o.value = subst (λ q. element_at c q acts ≡ Some o.value) (eqb-true o.place p t) k.0.1 in
-        let same : o.value ≡ v = cc in
-        ap (λ b. b || stands_in p v os) (ap (λ x. x == v) same ∙ same_number v)
-    by_test false t h m = m h
+value_stands acts c p v (o ∷ os) k e h = ⊎_elim
+    (λ t.
+    let f : element_at c p acts ≡ Some o.value = subst (λ q. element_at c q acts ≡ Some o.value) (eqb-true o.place p t) k.0.1 in
+    let same : o.value ≡ v = cc in
+    or_left _ _ (and_from _ _ t (eq-eqb o.value v same)))
+    (λ m. or_right ((o.place == p) && (o.value == v)) _ (value_stands acts c p v os k.1 e m)) (or_cases (o.place == p) _ h)
 
 standing_here : (waits : WaitId → Option Wait) (acts : List Act) (c p : ℕ) (h : Option Party) → HolderStands waits c h
     → HolderKnown acts c p h → Unheld acts (c, p) ⊎ ((w : WaitId) × (wait_at c p acts ≡ Some w) × IsStandingAt c (waits w))
@@ -100,14 +97,10 @@ standing_known : (waits : WaitId → Option Wait) (acts : List Act) (c p : ℕ) 
     ⊎ ((w : WaitId) × (wait_at c p acts ≡ Some w) × IsStandingAt c (waits w))
 unfolding OffersStand
 standing_known waits acts c p [] h k e = cc
-standing_known waits acts c p (o ∷ os) h k e = by_test (o.place == p) refl e (standing_known waits acts c p os h.1 k.1)
-  where
-    by_test : (b : Bool) → (o.place == p) ≡ b → (b || place_stands p os) ≡ true
-        → (place_stands p os ≡ true → Unheld acts (c, p) ⊎ ((w : WaitId) × (wait_at c p acts ≡ Some w) × IsStandingAt c (waits w)))
-        → Unheld acts (c, p) ⊎ ((w : WaitId) × (wait_at c p acts ≡ Some w) × IsStandingAt c (waits w))
-    by_test true t e m = subst (λ q. Unheld acts (c, q) ⊎ ((w : WaitId) × (wait_at c q acts ≡ Some w) × IsStandingAt c (waits w)))
-        (eqb-true o.place p t) (standing_here waits acts c o.place o.holder h.0 k.0.0)
-    by_test false t e m = m e
+standing_known waits acts c p (o ∷ os) h k e = ⊎_elim
+    (λ t. subst (λ q. Unheld acts (c, q) ⊎ ((w : WaitId) × (wait_at c q acts ≡ Some w) × IsStandingAt c (waits w)))
+    (eqb-true o.place p t) (standing_here waits acts c o.place o.holder h.0 k.0.0))
+    (standing_known waits acts c p os h.1 k.1) (or_cases (o.place == p) _ e)
 
 some_not_none : (ending : Option Settled) → is_some ending ≡ true → is_none ending ≡ false
 some_not_none (Some outcome) h = refl

@@ -2,7 +2,7 @@
 use Rattle.std.specs.Prelude.{◌≡◌, ℕ, ◌+◌, ◌≤◌, ◌==◌, Bool, true, false, not, ◌&&◌, cond, List, [], ◌∷◌, ◌++◌, Option, Some, None, refl, if◌then◌else◌, ◌⊎◌, is_some, is_none}
 use Rattle.std.specs.List.{list_any, AllByRecursion}
 use Rattle.std.proofs.Common.{sym, ap, ◌∙◌, subst, arith, inl, inr, ⊎_elim}
-use Rattle.std.proofs.lemmas.Bool.{eqb-true}
+use Rattle.std.proofs.lemmas.Bool.{eqb-true, cases_Bool, cond_both}
 use Rattle.co_base.specs.declared.names.WaitId.{WaitId}
 use Rattle.channel_model.specs.declared.acts.Act.{Act}
 use Rattle.channel_model.specs.declared.acts.Act.TheVariants.{Hand, Put, Offer, Await, Take, Admit, Drop, Spurn, Close, Void, Drain, WakeClosed, Withdraw, Settle}
@@ -52,12 +52,11 @@ held_stays w v false (Some x) k e = cc
 held_stays w v true (Some x) k e = let m = same_wait-eq w x.wait e in subst (λ u. not (same_wait v u) ≡ true) m (ap not k)
 
 without_stands : (p : ℕ) (w v : WaitId) (ch : Channel) → Stands p w ch → Stands p w (without v ch) ⊎ (Some v ≡ Some w)
-without_stands p w v ch h = by_test (same_wait v w) refl
-  where
-    by_test : (b : Bool) → same_wait v w ≡ b → Stands p w (without v ch) ⊎ (Some v ≡ Some w)
-    by_test true e = inr (ap (λ u. Some u) (same_wait-eq v w e))
-    by_test false e = inl (let k = filter_keeps (is_held p w) (λ (o : Standing). not (is_held_by v o.holder))
-        (λ o m. held_stays w v (o.place == p) o.holder e m) ch.queue in omega arith)
+without_stands p w v ch h = ⊎_elim
+    (λ e. inr (ap (λ u. Some u) (same_wait-eq v w e)))
+    (λ e. inl (let k = filter_keeps (is_held p w) (λ (o : Standing). not (is_held_by v o.holder))
+    (λ o m. held_stays w v (o.place == p) o.holder e m) ch.queue in omega arith))
+    (cases_Bool (same_wait v w))
 
 first_stands : (p c : ℕ) (w : WaitId) (rs : List Receiver) (how : ℕ → Resolution) (s : State) → Stands p w (s.channels c)
     → StandsOr p w (first_waiting rs) ((resolve_first rs how s).channels c)
@@ -89,11 +88,8 @@ first_or_rest p w o os h = by_test (is_held p w o) refl h
 -- only the channel of the act changes
 put_stands : (p d c : ℕ) (w : WaitId) (o : Option WaitId) (x : Channel) (s : State) → (Stands p w (s.channels d) → StandsOr p w o x)
     → Stands p w (s.channels c) → StandsOr p w o (put_channel d x s.channels c)
-put_stands p d c w o x s k h = by_test (d == c) refl
-  where
-    by_test : (b : Bool) → (d == c) ≡ b → StandsOr p w o (if b then x else s.channels c)
-    by_test true e = k (subst (λ n. Stands p w (s.channels n)) (sym (eqb-true d c e)) h)
-    by_test false e = inl h
+put_stands p d c w o x s k h = cond_both (d == c) x (s.channels c) (StandsOr p w o)
+    (λ e. k (subst (λ n. Stands p w (s.channels n)) (sym (eqb-true d c e)) h)) (λ e. inl h)
 
 popped : (p d c : ℕ) (w : WaitId) (o : Standing) (os : List Standing) (s : State) → (s.channels d).queue ≡ o ∷ os
     → Stands p w (s.channels c) → StandsOr p w (wait_of_party o.holder) ((with_queue d os s).channels c)

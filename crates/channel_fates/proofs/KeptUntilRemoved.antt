@@ -1,7 +1,7 @@
 -- An element that was put or admitted stands until it leaves the queue.
 use Rattle.std.specs.Prelude.{◌≡◌, ℕ, ◌+◌, ◌≤◌, ◌==◌, Bool, true, false, not, ◌&&◌, cond, List, [], ◌∷◌, ◌++◌, filter, Option, Some, None, refl, if◌then◌else◌, MatchBool, is_some, is_none}
 use Rattle.std.proofs.Common.{ap, sym, subst, ◌∙◌, arith}
-use Rattle.std.proofs.lemmas.Bool.{eqb-true}
+use Rattle.std.proofs.lemmas.Bool.{eqb-true, both_ways, false_from_ne_true, false≢true, and_parts, and_right, cond_both}
 use Rattle.co_base.specs.declared.names.WaitId.{WaitId}
 use Rattle.channel_model.specs.declared.acts.Act.{Act}
 use Rattle.channel_model.specs.declared.acts.Act.TheVariants.{Hand, Put, Offer, Await, Take, Admit, Drop, Spurn, Close, Void, Drain, WakeClosed, Withdraw, Settle}
@@ -39,27 +39,19 @@ record Keeps (p : ℕ) (leaving coming : Bool) (ch ch' : Channel) : Type 0 where
 
 -- ---- lists
 
-one_kept : (a b : Bool) (m n : ℕ) → (a ≡ true → b ≡ true) → m ≤ n → cond a 1 0 + m ≤ cond b (cond a 1 0 + n) n
-one_kept a true m n k h = omega arith
-one_kept true false m n k h = let e = k refl in cc
-one_kept false false m n k h = omega arith
-
-counted_cond : {X : Type 0} (f : X → Bool) (x : X) (xs : List X) (b : Bool)
-    → how_many f (cond b (x ∷ xs) xs) ≡ cond b (cond (f x) 1 0 + how_many f xs) (how_many f xs)
-counted_cond f x xs true = refl
-counted_cond f x xs false = refl
-
 -- a filter that lets all pass that are counted
 pub filter_keeps : {X : Type 0} (f g : X → Bool) → ((x : X) → f x ≡ true → g x ≡ true) → (xs : List X)
     → how_many f xs ≤ how_many f (filter g xs)
 filter_keeps f g k [] = omega arith
-filter_keeps f g k (x ∷ xs) = let m = one_kept (f x) (g x) _ _ (k x) (filter_keeps f g k xs) in let e = counted_cond f x (filter g xs) (g x)
-    in omega arith
+filter_keeps f g k (x ∷ xs) =
+    let rest = filter_keeps f g k xs in
+    cond_both (g x) (x ∷ filter g xs) (filter g xs) (λ l. how_many f (x ∷ xs) ≤ how_many f l) (λ e. omega arith)
+    (λ e. let none : ◌≡◌ {A = ℕ} (cond (f x) 1 0) 0 = ap (λ b. cond b 1 0) (false_from_ne_true (f x) (λ t. both_ways (g x) e (k x t)))
+    in omega arith)
 
 free_not_held : (w : WaitId) (b : Bool) (h : Option Party) → (b && is_none h) ≡ true → not (is_held_by w h) ≡ true
 free_not_held w b None e = refl
-free_not_held w true (Some x) e = cc
-free_not_held w false (Some x) e = cc
+free_not_held w b (Some x) e = absurd (false≢true (and_parts b false e).1)
 
 -- ---- what each act does
 
@@ -169,8 +161,7 @@ receiver_comes p true r ch = record { kept = omega arith }
 
 held_not_free : (p : ℕ) (b : Bool) (h : Option Party) → is_some h ≡ true → (b && is_none h) ≡ false
 held_not_free p b None e = cc
-held_not_free p true (Some x) e = refl
-held_not_free p false (Some x) e = refl
+held_not_free p b (Some x) e = and_right b false refl
 
 freed : (p q n : ℕ) (kind : Kind) (os : List Standing) → MayBeAdmitted kind q n os
     → free_with p os + cond (q == p) 1 0 ≤ free_with p (admitted q os)

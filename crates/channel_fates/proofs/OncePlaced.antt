@@ -2,7 +2,7 @@
 use Rattle.std.specs.Prelude.{◌≡◌, ℕ, ◌+◌, ◌≤◌, ◌==◌, Bool, true, false, not, ◌&&◌, cond, List, [], ◌∷◌, ◌++◌, filter, Option, Some, None, refl, if◌then◌else◌, MatchBool, is_some}
 use Rattle.std.specs.List.{list_any}
 use Rattle.std.proofs.Common.{ap, ◌∙◌, subst, arith, ⊎_elim}
-use Rattle.std.proofs.lemmas.Bool.{eqb-true, cases_lt}
+use Rattle.std.proofs.lemmas.Bool.{eqb-true, and_parts, cases_lt}
 use Rattle.co_base.specs.declared.names.WaitId.{WaitId}
 use Rattle.channel_model.specs.declared.acts.Act.{Act}
 use Rattle.channel_model.specs.declared.acts.Act.TheVariants.{Hand, Put, Offer, Await, Take, Admit, Drop, Spurn, Close, Void, Drain, WakeClosed, Withdraw, Settle}
@@ -304,12 +304,7 @@ admitted_stands kind p n (o ∷ os) h = by_test (o.place == p) h (admitted_stand
 
 -- both numbers are the same
 pub at_both : (c p d q : ℕ) → is_at c p d q ≡ true → (d ≡ c) × (q ≡ p)
-at_both c p d q e = both (d == c) (q == p) refl refl e
-  where
-    both : (a b : Bool) → (d == c) ≡ a → (q == p) ≡ b → (a && b) ≡ true → (d ≡ c) × (q ≡ p)
-    both true true s t e = (eqb-true d c s, eqb-true q p t)
-    both true false s t e = cc
-    both false b s t e = cc
+at_both c p d q e = let b = and_parts (d == c) (q == p) e in (eqb-true d c b.0, eqb-true q p b.1)
 
 admits_stands : (c p : ℕ) (shape : Shape) (s : State) (who : ℕ) (act : Act) → Needs shape s who act → admits c p act ≡ true
     → 1 ≤ offers_with p (s.channels c).queue

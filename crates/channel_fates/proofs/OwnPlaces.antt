@@ -1,10 +1,11 @@
 -- The wait of a plain call is that of one place alone.
-use Rattle.std.specs.Prelude.{◌≡◌, ℕ, ◌≤◌, ◌==◌, nat_lt, Bool, true, false, List, [], ◌∷◌, ◌++◌, Option, Some, None, refl, if◌then◌else◌, MatchBool, ◌⊎◌}
+use Rattle.std.specs.Prelude.{◌≡◌, ℕ, ◌≤◌, ◌==◌, nat_lt, Bool, true, false, List, [], ◌∷◌, ◌++◌, Option, Some, None, refl, if◌then◌else◌, ◌⊎◌}
 use Rattle.std.proofs.Common.{sym, ap, ◌∙◌, subst, arith, inl, inr, ⊎_elim}
-use Rattle.std.proofs.lemmas.Bool.{eqb-true, ltb-true}
+use Rattle.std.proofs.lemmas.Bool.{eqb-true, ltb-true, MatchBool-at_false, cases_Bool}
+use Rattle.std.proofs.lemmas.Option.{cond_some}
 use Rattle.co_base.specs.declared.names.WaitId.{WaitId}
 use Rattle.channel_model.specs.declared.acts.Act.{Act}
-use Rattle.channel_model.specs.declared.acts.Act.TheVariants.{Hand, Offer, Await}
+use Rattle.channel_model.specs.declared.acts.Act.TheVariants.{Offer, Await}
 use Rattle.channel_model.specs.Answers.{IsOwnWait}
 use Rattle.channel_model.specs.Channels.{Shape, State, Wait, same_wait, start}
 use Rattle.channel_model.specs.Effects.{after, resolved_wait, name_clause, settled_wait}
@@ -83,18 +84,10 @@ abbrev Names : ℕ → ℕ → WaitId → Act → Type 0
 Names c p w act = ((v : ℕ) × (k : ℕ) × (act ≡ Offer c p v w k)) ⊎ ((k : ℕ) × (act ≡ Await c p w k))
 
 names_of : (c p : ℕ) (w : WaitId) (act : Act) → places_wait c p act ≡ Some w → Names c p w act
-names_of c p w (Offer d q v u k) e = by_test (is_at c p d q) refl e
-  where
-    by_test : (b : Bool) → is_at c p d q ≡ b → (if b then Some u else None) ≡ Some w → Names c p w (Offer d q v u k)
-    by_test true t e = let m = at_both c p d q t in let f : u ≡ w = cc
-        in inl (v, k, ap (λ x. Offer x q v u k) m.0 ∙ (ap (λ x. Offer c x v u k) m.1 ∙ ap (λ x. Offer c p v x k) f))
-    by_test false t e = cc
-names_of c p w (Await d q u k) e = by_test (is_at c p d q) refl e
-  where
-    by_test : (b : Bool) → is_at c p d q ≡ b → (if b then Some u else None) ≡ Some w → Names c p w (Await d q u k)
-    by_test true t e = let m = at_both c p d q t in let f : u ≡ w = cc
-        in inr (k, ap (λ x. Await x q u k) m.0 ∙ (ap (λ x. Await c x u k) m.1 ∙ ap (λ x. Await c p x k) f))
-    by_test false t e = cc
+names_of c p w (Offer d q v u k) e = let t = cond_some (is_at c p d q) u w e in let m = at_both c p d q t.0
+    in inl (v, k, ap (λ x. Offer x q v u k) m.0 ∙ (ap (λ x. Offer c x v u k) m.1 ∙ ap (λ x. Offer c p v x k) t.1))
+names_of c p w (Await d q u k) e = let t = cond_some (is_at c p d q) u w e in let m = at_both c p d q t.0
+    in inr (k, ap (λ x. Await x q u k) m.0 ∙ (ap (λ x. Await c x u k) m.1 ∙ ap (λ x. Await c p x k) t.1))
 names_of c p w other e = cc
 
 joining : (who k c : ℕ) (x : Option Wait) → JoinsWait who k c x → Selects x
@@ -103,12 +96,10 @@ joining who k c (Some x) m = m.select
 
 -- it has the place's own name, or began at a select's clause
 named_own : (who k c p : ℕ) (w : WaitId) (s : State) → MayName who k c p w s → (w ≡ name_of c p) ⊎ Selects (s.waits w)
-named_own who k c p w s may = by_test (same_wait w (name_of c p)) refl may
-  where
-    by_test : (b : Bool) → same_wait w (name_of c p) ≡ b → MatchBool b (k ≤ 7) (JoinsWait who k c (s.waits w)) → (w ≡ name_of c p)
-        ⊎ Selects (s.waits w)
-    by_test true e m = inl (same_wait-eq w (name_of c p) e)
-    by_test false e m = inr (joining who k c (s.waits w) m)
+named_own who k c p w s may = ⊎_elim
+    (λ e. inl (same_wait-eq w (name_of c p) e))
+    (λ e. inr (joining who k c (s.waits w) (MatchBool-at_false (k ≤ 7) (JoinsWait who k c (s.waits w)) e may)))
+    (cases_Bool (same_wait w (name_of c p)))
 
 not_joining : (who c : ℕ) (x : Option Wait) → JoinsWait who 0 c x → ⊥
 not_joining who c None m = m
@@ -116,11 +107,10 @@ not_joining who c (Some x) m = let l = m.low in omega arith
 
 -- named by a plain call, it has the place's own name
 named_plain : (who c p : ℕ) (w : WaitId) (s : State) → MayName who 0 c p w s → w ≡ name_of c p
-named_plain who c p w s may = by_test (same_wait w (name_of c p)) refl may
-  where
-    by_test : (b : Bool) → same_wait w (name_of c p) ≡ b → MatchBool b (0 ≤ 7) (JoinsWait who 0 c (s.waits w)) → w ≡ name_of c p
-    by_test true e m = same_wait-eq w (name_of c p) e
-    by_test false e m = absurd (not_joining who c (s.waits w) m)
+named_plain who c p w s may = ⊎_elim
+    (λ e. same_wait-eq w (name_of c p) e)
+    (λ e. absurd (not_joining who c (s.waits w) (MatchBool-at_false (0 ≤ 7) (JoinsWait who 0 c (s.waits w)) e may)))
+    (cases_Bool (same_wait w (name_of c p)))
 
 begun_plain : (who c : ℕ) (x : Option Wait) → x ≡ None → IsPlainWait (name_clause who 0 c x)
 begun_plain who c None e = refl
@@ -158,20 +148,17 @@ begins_names : (w : WaitId) (act : Act) → begins act ≡ Some w → ((d : ℕ)
     ⊎ ((d : ℕ) × (q : ℕ) × (k : ℕ) × (act ≡ Await d q w k))
 begins_names w (Offer d q v u k) e = let f : u ≡ w = cc in inl (d, q, v, k, ap (λ x. Offer d q v x k) f)
 begins_names w (Await d q u k) e = let f : u ≡ w = cc in inr (d, q, k, ap (λ x. Await d q x k) f)
-begins_names w (Hand d q v) e = cc
 begins_names w other e = cc
 
 named_begins : (who k d q : ℕ) (w : WaitId) (s : State) → MayName who k d q w s → (w ≡ name_of d q) ⊎ (s.waits w ≡ None → ⊥)
-named_begins who k d q w s may = by_test (same_wait w (name_of d q)) refl may
+named_begins who k d q w s may = ⊎_elim
+    (λ e. inl (same_wait-eq w (name_of d q) e))
+    (λ e. inr (joins (s.waits w) (MatchBool-at_false (k ≤ 7) (JoinsWait who k d (s.waits w)) e may)))
+    (cases_Bool (same_wait w (name_of d q)))
   where
     joins : (x : Option Wait) → JoinsWait who k d x → x ≡ None → ⊥
     joins None m e = m
     joins (Some x) m e = cc
-
-    by_test : (b : Bool) → same_wait w (name_of d q) ≡ b → MatchBool b (k ≤ 7) (JoinsWait who k d (s.waits w)) → (w ≡ name_of d q)
-        ⊎ (s.waits w ≡ None → ⊥)
-    by_test true e m = inl (same_wait-eq w (name_of d q) e)
-    by_test false e m = inr (joins (s.waits w) m)
 
 own_there : (who : ℕ) (x : Option Wait) → IsOwnWait who x → x ≡ None → ⊥
 own_there who None h e = h

@@ -2,7 +2,8 @@
 use Rattle.std.specs.Prelude.{◌≡◌, ℕ, ◌+◌, ◌≤◌, ◌==◌, Bool, true, false, not, ◌&&◌, cond, List, [], ◌∷◌, ◌++◌, filter, Option, Some, None, refl, if◌then◌else◌, ◌⊎◌}
 use Rattle.std.specs.List.{list_any, AllByRecursion}
 use Rattle.std.proofs.Common.{sym, ap, ◌∙◌, subst, arith, inl, inr, ⊎_elim}
-use Rattle.std.proofs.lemmas.Bool.{eqb-true}
+use Rattle.std.proofs.lemmas.Bool.{eqb-true, cond_both}
+use Rattle.std.proofs.lemmas.Option.{cond_some}
 use Rattle.std.proofs.ByRecursion.{All-push}
 use Rattle.co_base.specs.declared.names.WaitId.{WaitId}
 use Rattle.channel_model.specs.declared.acts.Act.{Act}
@@ -53,11 +54,7 @@ AllKnown acts s = (c : ℕ) → Known acts c (s.channels c)
 -- ---- offers
 
 pub offer_here : (c p k : ℕ) (act : Act) → offers_at c p act ≡ Some k → offers c p act ≡ true
-offer_here c p k (Offer d q v w j) e = by_test (is_at c p d q) e
-  where
-    by_test : (b : Bool) → (if b then Some j else None) ≡ Some k → b ≡ true
-    by_test true e = refl
-    by_test false e = cc
+offer_here c p k (Offer d q v w j) e = (cond_some (is_at c p d q) j k e).0
 offer_here c p k other e = cc
 
 -- a place with a clause was offered
@@ -110,11 +107,8 @@ holder_known acts (Some p) how s h = resolve_known acts p.wait (how p.clause) s 
 
 put_known : (acts : List Act) (c : ℕ) (ch : Channel) (s : State) → AllKnown acts s → Known acts c ch
     → AllKnown acts (record s { channels = put_channel c ch s.channels })
-put_known acts c ch s h k d = put_case (c == d) refl
-  where
-    put_case : (b : Bool) → (c == d) ≡ b → Known acts d (if b then ch else s.channels d)
-    put_case true e = subst (λ n. Known acts n ch) (eqb-true c d e) k
-    put_case false e = h d
+put_known acts c ch s h k d = cond_both (c == d) ch (s.channels d) (Known acts d) (λ e. subst (λ n. Known acts n ch) (eqb-true c d e) k)
+    (λ e. h d)
 
 queue_known : (acts : List Act) (c : ℕ) (os : List Standing) (s : State) → AllKnown acts s → AllByRecursion (OfferKnown acts c) os
     → AllKnown acts (with_queue c os s)
@@ -133,12 +127,10 @@ offer_known acts c (o ∷ os) how s h k = holder_known acts o.holder how _ (queu
 admitted_known : (acts : List Act) (c p : ℕ) (os : List Standing) → list_any (admits c p) acts ≡ true
     → AllByRecursion (OfferKnown acts c) os → AllByRecursion (OfferKnown acts c) (admitted p os)
 admitted_known acts c p [] a h = tt
-admitted_known acts c p (o ∷ os) a h = by_test (o.place == p) refl (admitted_known acts c p os a h.1)
-  where
-    by_test : (b : Bool) → (o.place == p) ≡ b → AllByRecursion (OfferKnown acts c) (admitted p os)
-        → AllByRecursion (OfferKnown acts c) (if b then record o { holder = None } ∷ os else o ∷ admitted p os)
-    by_test true e k = ((inr (subst (λ n. list_any (admits c n) acts ≡ true) (sym (eqb-true o.place p e)) a), h.0.1), h.1)
-    by_test false e k = (h.0, k)
+admitted_known acts c p (o ∷ os) a h =
+    cond_both (o.place == p) (record o { holder = None } ∷ os) (o ∷ admitted p os) (AllByRecursion (OfferKnown acts c))
+    (λ e. ((inr (subst (λ n. list_any (admits c n) acts ≡ true) (sym (eqb-true o.place p e)) a), h.0.1), h.1))
+    (λ e. (h.0, admitted_known acts c p os a h.1))
 
 -- ---- where elements come from
 
@@ -158,14 +150,10 @@ hand_answers c p other e = cc
 pub handed_answered : (c p : ℕ) (acts : List Act) → list_any (hands c p) acts ≡ true → 1 ≤ how_many (answers c p) acts
 handed_answered c p acts e = let f = found (hands c p) acts e in any_count (answers c p) acts (f.2 (answers c p) (hand_answers c p f.0 f.1))
 
-is_some_then : (b : Bool) (x v : ℕ) → (if b then Some x else None) ≡ Some v → b ≡ true
-is_some_then true x v e = refl
-is_some_then false x v e = cc
-
 pub came : (c p v : ℕ) (act : Act) → brings c p act ≡ Some v → (hands c p act ≡ true) ⊎ ((puts c p act ≡ true) ⊎ (offers c p act ≡ true))
-came c p v (Hand d q x) e = inl (is_some_then (is_at c p d q) x v e)
-came c p v (Put d q x) e = inr (inl (is_some_then (is_at c p d q) x v e))
-came c p v (Offer d q x w k) e = inr (inr (is_some_then (is_at c p d q) x v e))
+came c p v (Hand d q x) e = inl (cond_some (is_at c p d q) x v e).0
+came c p v (Put d q x) e = inr (inl (cond_some (is_at c p d q) x v e).0)
+came c p v (Offer d q x w k) e = inr (inr (cond_some (is_at c p d q) x v e).0)
 came c p v other e = cc
 
 -- no element comes to a place before it is given out

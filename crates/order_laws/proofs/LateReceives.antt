@@ -43,13 +43,8 @@ not_cancelled : (n : ℕ) → IsRunning (replay_jobs (take n jobs) 1) → n ≤ 
 unfolding replay_jobs_from
 not_cancelled zero h = omega arith
 not_cancelled (suc zero) h = omega arith
-not_cancelled (suc (suc zero)) h = cc
-not_cancelled (suc (suc (suc zero))) h = cc
-not_cancelled (suc (suc (suc (suc zero)))) h = cc
-not_cancelled (suc (suc (suc (suc (suc zero))))) h = cc
-not_cancelled (suc (suc (suc (suc (suc (suc zero)))))) h = cc
-not_cancelled (suc (suc (suc (suc (suc (suc (suc zero))))))) h = cc
 not_cancelled (suc (suc (suc (suc (suc (suc (suc (suc n)))))))) h = cc
+not_cancelled fewer h = cc
 
 -- where main notes that it handed the element it has not, and has cancelled
 not_handed : (n : ℕ) → acts_of 0 (take n channels) ≡ [] → n ≤ 1

@@ -4,7 +4,7 @@ use Rattle.std.proofs.Common.{ap, sym, ◌∙◌, subst, append_assoc}
 use Rattle.std.proofs.lemmas.List.{append-nil}
 use mathlib.Core.List.{IsPrefix}
 use Rattle.note_book.specs.declared.book.Item.{Item}
-use Rattle.call_meaning.specs.Telling.{Told, note, on_channels, on_jobs, items_in}
+use Rattle.call_meaning.specs.Telling.{Told, note, items_in}
 use Rattle.call_meaning.specs.Stories.{Story}
 use Rattle.co_base.specs.Orders.{Side}
 use Rattle.call_meaning.specs.Orders.{IsSoAlong, IsTrueAlong}
@@ -48,10 +48,7 @@ noted_at s order items earlier (note j ∷ told) (b ∷ before) i after e (at, s
       subst (λ l. IsSoAlong s order l earlier (note i) r.0) noted
           (sooner s order ((items ++ j ∷ []) ++ before) earlier at (note i) r.0 so.not_before r.1),
     )
-noted_at s order items earlier (on_channels fact ∷ told) before i after e (at, so, rest) =
-    let r = noted_at s order items at told before i after e rest in
-    (r.0, sooner s order (items ++ before) earlier at (note i) r.0 so.not_before r.1)
-noted_at s order items earlier (on_jobs fact ∷ told) before i after e (at, so, rest) =
+noted_at s order items earlier (other ∷ told) before i after e (at, so, rest) =
     let r = noted_at s order items at told before i after e rest in
     (r.0, sooner s order (items ++ before) earlier at (note i) r.0 so.not_before r.1)
 
@@ -63,5 +60,4 @@ along_rest s order items earlier [] ys t = (earlier, subst (λ l. IsTrueAlong s 
 along_rest s order items earlier (note i ∷ xs) ys (at, so, rest) =
     let r = along_rest s order (items ++ i ∷ []) at xs ys rest in
     (r.0, subst (λ l. IsTrueAlong s order l r.0 ys) (append_assoc items (i ∷ []) (items_in xs)) r.1)
-along_rest s order items earlier (on_channels fact ∷ xs) ys (at, so, rest) = along_rest s order items at xs ys rest
-along_rest s order items earlier (on_jobs fact ∷ xs) ys (at, so, rest) = along_rest s order items at xs ys rest
+along_rest s order items earlier (other ∷ xs) ys (at, so, rest) = along_rest s order items at xs ys rest

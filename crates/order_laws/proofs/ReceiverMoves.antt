@@ -1,7 +1,8 @@
 -- A coroutine whose one line is a receive, and whose book is an Await and a Settle with a value, told between the two that its wait was
 -- resolved, and then that its Job might run.
-use Rattle.std.specs.Prelude.{◌≡◌, ◌⊎◌, ◌+◌, ℕ, length, List, [], ◌∷◌, ◌++◌, None, Some, refl, slice_get}
+use Rattle.std.specs.Prelude.{◌≡◌, ◌⊎◌, ℕ, Bool, true, false, length, List, [], ◌∷◌, ◌++◌, None, Some, refl, slice_get}
 use Rattle.std.proofs.Common.{ap, arith, sym, ◌∙◌, subst, append_assoc, inl, inr, ⊎_elim}
+use Rattle.std.proofs.lemmas.Bool.{false≢true}
 use Rattle.std.proofs.lemmas.List.{append-nil}
 use mathlib.Core.List.{IsPrefix}
 use Rattle.co_base.specs.declared.names.WaitId.{WaitId}
@@ -14,12 +15,14 @@ use Rattle.call_meaning.specs.ChannelCalls.{Call, receives, Answer, AtOnce, Refu
 use Rattle.script_grammar.specs.declared.instructions.Instruction.{Instruction}
 use Rattle.script_grammar.specs.declared.instructions.Instruction.TheVariants as line
 use Rattle.script_grammar.specs.Tags.{code_of, layouts_from}
+use Rattle.script_meaning.specs.declared.stage.Stage.{Stage}
 use Rattle.script_meaning.specs.declared.stage.Stage.TheVariants as stage
 use Rattle.script_meaning.specs.Configs.{Config, fresh, at_stage, scope_in, row_or, innermost, LineIs}
 use Rattle.script_meaning.specs.Lines.{LineCalls, After}
 use Rattle.script_meaning.specs.Moves.{Move}
 use Rattle.script_meaning.specs.Books.{Begins, Reaches}
 use Rattle.script_meaning.proofs.BooksGoOn.{items_in-append}
+use Rattle.script_laws.proofs.MovesFrom.{From, begins_at, stage_of, stage_is}
 use Rattle.run_laws.proofs.Prefixes.{prefix_then}
 use Rattle.order_laws.specs.StaleAnswers.{noted}
 use Rattle.order_laws.specs.LateReceives.{program, wait, after_wait, book_of_receiver}
@@ -32,35 +35,7 @@ from_fresh : (x y : Config) (g : List Told) → Move program 1 x g y → x.stage
     → ((g ≡ on_jobs (MayRun 1) ∷ []) × (y ≡ at_stage stage.Running x)) ⊎ (g ≡ saw 1 ∷ [])
 from_fresh _ _ _ (Move.runs x s) f = inl (refl, refl)
 from_fresh _ _ _ (Move.never_runs x s) f = inr refl
-from_fresh _ _ _ (Move.calls x y i g a s h z) f = absurd (let q : stage.Running ≡ stage.Fresh = sym (s.stage) ∙ f in cc)
-from_fresh _ _ _ (Move.resumes x y w i outcome a s l r z) f = absurd (let q : stage.Waiting w ≡ stage.Fresh = sym (s) ∙ f in cc)
-from_fresh _ _ _ (Move.cancelled x w s) f = absurd (let q : stage.Waiting w ≡ stage.Fresh = sym (s) ∙ f in cc)
-from_fresh _ _ _ (Move.gives_up x w g s h) f = absurd (let q : stage.Waiting w ≡ stage.Fresh = sym (s) ∙ f in cc)
-from_fresh _ _ _ (Move.sees_job x y job row end s l n z) f = absurd (let q : stage.SeesJob ≡ stage.Fresh = sym (s) ∙ f in cc)
-from_fresh _ _ _ (Move.closes x c g s h) f = absurd (let q : stage.Running ≡ stage.Fresh = sym (s.stage) ∙ f in cc)
-from_fresh _ _ _ (Move.cancels_channel x c g s h) f = absurd (let q : stage.Running ≡ stage.Fresh = sym (s.stage) ∙ f in cc)
-from_fresh _ _ _ (Move.yields x s) f = absurd (let q : stage.Running ≡ stage.Fresh = sym (s.stage) ∙ f in cc)
-from_fresh _ _ _ (Move.stops_at_yield x s) f = absurd (let q : stage.Running ≡ stage.Fresh = sym (s.stage) ∙ f in cc)
-from_fresh _ _ _ (Move.stops_at_join x job s) f = absurd (let q : stage.Running ≡ stage.Fresh = sym (s.stage) ∙ f in cc)
-from_fresh _ _ _ (Move.launches x block how job now s) f = absurd (let q : stage.Running ≡ stage.Fresh = sym (s.stage) ∙ f in cc)
-from_fresh _ _ _ (Move.launch_refused x block how job g s h) f = absurd (let q : stage.Running ≡ stage.Fresh = sym (s.stage) ∙ f in cc)
-from_fresh _ _ _ (Move.enters x supervisor row now s) f = absurd (let q : stage.Running ≡ stage.Fresh = sym (s.stage) ∙ f in cc)
-from_fresh _ _ _ (Move.enter_refused x supervisor g s h) f = absurd (let q : stage.Running ≡ stage.Fresh = sym (s.stage) ∙ f in cc)
-from_fresh _ _ _ (Move.starts x job row g s n h) f = absurd (let q : stage.Running ≡ stage.Fresh = sym (s.stage) ∙ f in cc)
-from_fresh _ _ _ (Move.cancels x job row newly g s n h) f = absurd (let q : stage.Running ≡ stage.Fresh = sym (s.stage) ∙ f in cc)
-from_fresh _ _ _ (Move.fails x v s) f = absurd (let q : stage.Running ≡ stage.Fresh = sym (s.stage) ∙ f in cc)
-from_fresh _ _ _ (Move.results x o s) f = absurd (let q : stage.Running ≡ stage.Fresh = sym (s.stage) ∙ f in cc)
-from_fresh _ _ _ (Move.repeats x n s) f = absurd (let q : stage.Running ≡ stage.Fresh = sym (s.stage) ∙ f in cc)
-from_fresh _ _ _ (Move.turns_again x head n es s e) f = absurd (let q : stage.Running ≡ stage.Fresh = sym (s.stage) ∙ f in cc)
-from_fresh _ _ _ (Move.turns_no_more x head es s e) f = absurd (let q : stage.Running ≡ stage.Fresh = sym (s.stage) ∙ f in cc)
-from_fresh _ _ _ (Move.receives_again x head es s e) f = absurd (let q : stage.Running ≡ stage.Fresh = sym (s.stage) ∙ f in cc)
-from_fresh _ _ _ (Move.ends_scope x y s end g all a l e h c z q) f = absurd (let q : stage.Running ≡ stage.Fresh = sym (l.stage) ∙ f in cc)
-from_fresh _ _ _ (Move.scope_ended x w n v s) f = absurd (let q : stage.Leaving w ≡ stage.Fresh = sym (s) ∙ f in cc)
-from_fresh _ _ _ (Move.sees_scope x y s end l e z) f = absurd (let q : stage.SeesScope ≡ stage.Fresh = sym (l) ∙ f in cc)
-from_fresh _ _ _ (Move.breaks_scope x y s failure break g all a l e h c z q) f =
-    absurd (let q : stage.Unwinding failure ≡ stage.Fresh = sym (l) ∙ f in cc)
-from_fresh _ _ _ (Move.breaks x failure g s e h) f = absurd (let q : stage.Unwinding failure ≡ stage.Fresh = sym (s) ∙ f in cc)
-from_fresh _ _ _ (Move.ends x g s e h) f = absurd (let q : stage.Running ≡ stage.Fresh = sym (s) ∙ f in cc)
+from_fresh x y g other f = absurd (let q : stage_of (begins_at other) ≡ stage.Fresh = sym (stage_is (begins_at other)) ∙ f in cc)
 
 -- ---- its line
 
@@ -115,54 +90,29 @@ called x y _ _ _ e (LineCalls.receive c g a h) z p =
     plainly x y (receives c) g a (ap receives same) h (subst (λ n. After program 1 x (line.Receive n) a y) same z) p
 called x y _ _ _ e other z p = cc
 
+-- a line that receives
+abbrev is_receive : Instruction → Bool
+is_receive (line.Receive c) = true
+is_receive other = false
+
+abbrev is_running : Stage → Bool
+is_running stage.Running = true
+is_running other = false
+
+-- from there it may move at a receive
+abbrev may_receive : {x : Config} → From program 1 x → Bool
+may_receive (From.a_line i at) = is_receive i
+may_receive (From.a_stage s e) = is_running s
+
+not_there : (x : Config) (f : From program 1 x) → may_receive f ≡ false → x.stage ≡ stage.Running → x.line ≡ 0 → ⊥
+not_there x (From.a_line i at) e f l = false≢true (sym e ∙ ap is_receive (first_line x i l at.line_is))
+not_there x (From.a_stage s is) e f l = false≢true (sym e ∙ ap is_running (sym is ∙ f))
+
 from_line : (x y : Config) (g : List Told) → Move program 1 x g y → x.stage ≡ stage.Running → x.line ≡ 0
     → IsPrefix (items_in g) book_of_receiver → Awaits x g y
-from_line _ _ _ (Move.runs x s) f l p = absurd (let q : stage.Fresh ≡ stage.Running = sym s ∙ f in cc)
-from_line _ _ _ (Move.never_runs x s) f l p = absurd (let q : stage.Fresh ≡ stage.Running = sym s ∙ f in cc)
 from_line _ _ _ (Move.calls x y i g a s h z) f l p = called x y i g a (first_line x i l s.line_is) h z p
-from_line _ _ _ (Move.resumes x y w i outcome a s t r z) f l p = absurd (let q : stage.Waiting w ≡ stage.Running = sym (s) ∙ f in cc)
-from_line _ _ _ (Move.cancelled x w s) f l p = absurd (let q : stage.Waiting w ≡ stage.Running = sym (s) ∙ f in cc)
-from_line _ _ _ (Move.gives_up x w g s h) f l p = absurd (let q : stage.Waiting w ≡ stage.Running = sym (s) ∙ f in cc)
-from_line _ _ _ (Move.sees_job x y job row end s t n z) f l p = absurd (let q : stage.SeesJob ≡ stage.Running = sym (s) ∙ f in cc)
-from_line _ _ _ (Move.closes x c g s h) f l p = absurd (let q : line.Close c ≡ line.Receive 0 = first_line x (line.Close c) l s.line_is
-    in cc)
-from_line _ _ _ (Move.cancels_channel x c g s h) f l p =
-    absurd (let q : line.CancelChannel c ≡ line.Receive 0 = first_line x (line.CancelChannel c) l s.line_is in cc)
-from_line _ _ _ (Move.yields x s) f l p = absurd (let q : line.Yield ≡ line.Receive 0 = first_line x (line.Yield) l s.line_is in cc)
-from_line _ _ _ (Move.stops_at_yield x s) f l p = absurd (let q : line.Yield ≡ line.Receive 0 = first_line x (line.Yield) l s.line_is in cc)
-from_line _ _ _ (Move.stops_at_join x job s) f l p = absurd
-    (let q : line.Join job ≡ line.Receive 0 = first_line x (line.Join job) l s.line_is in cc)
-from_line _ _ _ (Move.launches x block how job now s) f l p =
-    absurd (let q : line.Launch block how job ≡ line.Receive 0 = first_line x (line.Launch block how job) l s.line_is in cc)
-from_line _ _ _ (Move.launch_refused x block how job g s h) f l p =
-    absurd (let q : line.Launch block how job ≡ line.Receive 0 = first_line x (line.Launch block how job) l s.line_is in cc)
-from_line _ _ _ (Move.enters x supervisor row now s) f l p =
-    absurd (let q : line.Scope supervisor ≡ line.Receive 0 = first_line x (line.Scope supervisor) l s.line_is in cc)
-from_line _ _ _ (Move.enter_refused x supervisor g s h) f l p =
-    absurd (let q : line.Scope supervisor ≡ line.Receive 0 = first_line x (line.Scope supervisor) l s.line_is in cc)
-from_line _ _ _ (Move.starts x job row g s n h) f l p =
-    absurd (let q : line.Start job ≡ line.Receive 0 = first_line x (line.Start job) l s.line_is in cc)
-from_line _ _ _ (Move.cancels x job row newly g s n h) f l p =
-    absurd (let q : line.Cancel job ≡ line.Receive 0 = first_line x (line.Cancel job) l s.line_is in cc)
-from_line _ _ _ (Move.fails x v s) f l p = absurd (let q : line.Fail v ≡ line.Receive 0 = first_line x (line.Fail v) l s.line_is in cc)
-from_line _ _ _ (Move.results x o s) f l p = absurd (let q : line.SetResult o ≡ line.Receive 0 = first_line x (line.SetResult o) l s.line_is
-    in cc)
-from_line _ _ _ (Move.repeats x n s) f l p = absurd (let q : line.Repeat (n + 1) ≡ line.Receive 0 =
-    first_line x (line.Repeat (n + 1)) l s.line_is in cc)
-from_line _ _ _ (Move.turns_again x head n es s e) f l p =
-    absurd (let q : line.End ≡ line.Receive 0 = first_line x (line.End) l s.line_is in cc)
-from_line _ _ _ (Move.turns_no_more x head es s e) f l p =
-    absurd (let q : line.End ≡ line.Receive 0 = first_line x (line.End) l s.line_is in cc)
-from_line _ _ _ (Move.receives_again x head es s e) f l p =
-    absurd (let q : line.End ≡ line.Receive 0 = first_line x (line.End) l s.line_is in cc)
-from_line _ _ _ (Move.ends_scope x y s end g all a t e h c z q) f l p =
-    absurd (let q : line.End ≡ line.Receive 0 = first_line x (line.End) l t.line_is in cc)
-from_line _ _ _ (Move.scope_ended x w n v s) f l p = absurd (let q : stage.Leaving w ≡ stage.Running = sym (s) ∙ f in cc)
-from_line _ _ _ (Move.sees_scope x y s end t e z) f l p = absurd (let q : stage.SeesScope ≡ stage.Running = sym (t) ∙ f in cc)
-from_line _ _ _ (Move.breaks_scope x y s failure break g all a t e h c z q) f l p =
-    absurd (let q : stage.Unwinding failure ≡ stage.Running = sym (t) ∙ f in cc)
-from_line _ _ _ (Move.breaks x failure g s e h) f l p = absurd (let q : stage.Unwinding failure ≡ stage.Running = sym (s) ∙ f in cc)
 from_line _ _ _ (Move.ends x g s e h) f l p = absurd (not_over x l e)
+from_line x y g other f l p = absurd (not_there x (begins_at other) refl f l)
 
 -- ---- its wait
 
@@ -196,39 +146,10 @@ not_seen row g (rest, p) = cc
 
 from_wait : (v : WaitId) (x y : Config) (g : List Told) → Move program 1 x g y → x.stage ≡ stage.Waiting v → scope_in x.entered ≡ None
     → IsPrefix (items_in g) settles_then → Resumes g
-from_wait v _ _ _ (Move.runs x s) f n p = absurd (let q : stage.Fresh ≡ stage.Waiting v = sym s ∙ f in cc)
-from_wait v _ _ _ (Move.never_runs x s) f n p = absurd (let q : stage.Fresh ≡ stage.Waiting v = sym s ∙ f in cc)
-from_wait v _ _ _ (Move.calls x y i g a s h z) f n p = absurd (let q : stage.Running ≡ stage.Waiting v = sym (s.stage) ∙ f in cc)
 from_wait v _ _ _ (Move.resumes x y w i outcome a s l r z) f n p = resumed v x w outcome s f n p
 from_wait v _ _ _ (Move.cancelled x w s) f n p = absurd (not_cancelled w p)
 from_wait v _ _ _ (Move.gives_up x w g s h) f n p = absurd (not_seen (innermost 1 x) g p)
-from_wait v _ _ _ (Move.sees_job x y job row end s l m z) f n p = absurd (let q : stage.SeesJob ≡ stage.Waiting v = sym (s) ∙ f in cc)
-from_wait v _ _ _ (Move.closes x c g s h) f n p = absurd (let q : stage.Running ≡ stage.Waiting v = sym (s.stage) ∙ f in cc)
-from_wait v _ _ _ (Move.cancels_channel x c g s h) f n p = absurd (let q : stage.Running ≡ stage.Waiting v = sym (s.stage) ∙ f in cc)
-from_wait v _ _ _ (Move.yields x s) f n p = absurd (let q : stage.Running ≡ stage.Waiting v = sym (s.stage) ∙ f in cc)
-from_wait v _ _ _ (Move.stops_at_yield x s) f n p = absurd (let q : stage.Running ≡ stage.Waiting v = sym (s.stage) ∙ f in cc)
-from_wait v _ _ _ (Move.stops_at_join x job s) f n p = absurd (let q : stage.Running ≡ stage.Waiting v = sym (s.stage) ∙ f in cc)
-from_wait v _ _ _ (Move.launches x block how job now s) f n p = absurd (let q : stage.Running ≡ stage.Waiting v = sym (s.stage) ∙ f in cc)
-from_wait v _ _ _ (Move.launch_refused x block how job g s h) f n p =
-    absurd (let q : stage.Running ≡ stage.Waiting v = sym (s.stage) ∙ f in cc)
-from_wait v _ _ _ (Move.enters x supervisor row now s) f n p = absurd (let q : stage.Running ≡ stage.Waiting v = sym (s.stage) ∙ f in cc)
-from_wait v _ _ _ (Move.enter_refused x supervisor g s h) f n p = absurd (let q : stage.Running ≡ stage.Waiting v = sym (s.stage) ∙ f in cc)
-from_wait v _ _ _ (Move.starts x job row g s m h) f n p = absurd (let q : stage.Running ≡ stage.Waiting v = sym (s.stage) ∙ f in cc)
-from_wait v _ _ _ (Move.cancels x job row newly g s m h) f n p = absurd (let q : stage.Running ≡ stage.Waiting v = sym (s.stage) ∙ f in cc)
-from_wait v _ _ _ (Move.fails x u s) f n p = absurd (let q : stage.Running ≡ stage.Waiting v = sym (s.stage) ∙ f in cc)
-from_wait v _ _ _ (Move.results x o s) f n p = absurd (let q : stage.Running ≡ stage.Waiting v = sym (s.stage) ∙ f in cc)
-from_wait v _ _ _ (Move.repeats x m s) f n p = absurd (let q : stage.Running ≡ stage.Waiting v = sym (s.stage) ∙ f in cc)
-from_wait v _ _ _ (Move.turns_again x head m es s e) f n p = absurd (let q : stage.Running ≡ stage.Waiting v = sym (s.stage) ∙ f in cc)
-from_wait v _ _ _ (Move.turns_no_more x head es s e) f n p = absurd (let q : stage.Running ≡ stage.Waiting v = sym (s.stage) ∙ f in cc)
-from_wait v _ _ _ (Move.receives_again x head es s e) f n p = absurd (let q : stage.Running ≡ stage.Waiting v = sym (s.stage) ∙ f in cc)
-from_wait v _ _ _ (Move.ends_scope x y s end g all a l e h c z q) f n p =
-    absurd (let q : stage.Running ≡ stage.Waiting v = sym (l.stage) ∙ f in cc)
-from_wait v _ _ _ (Move.scope_ended x w m u s) f n p = absurd (let q : stage.Leaving w ≡ stage.Waiting v = sym (s) ∙ f in cc)
-from_wait v _ _ _ (Move.sees_scope x y s end l e z) f n p = absurd (let q : stage.SeesScope ≡ stage.Waiting v = sym (l) ∙ f in cc)
-from_wait v _ _ _ (Move.breaks_scope x y s failure break g all a l e h c z q) f n p =
-    absurd (let q : stage.Unwinding failure ≡ stage.Waiting v = sym (l) ∙ f in cc)
-from_wait v _ _ _ (Move.breaks x failure g s e h) f n p = absurd (let q : stage.Unwinding failure ≡ stage.Waiting v = sym (s) ∙ f in cc)
-from_wait v _ _ _ (Move.ends x g s e h) f n p = absurd (let q : stage.Running ≡ stage.Waiting v = sym (s) ∙ f in cc)
+from_wait v x y g other f n p = absurd (let q : stage_of (begins_at other) ≡ stage.Waiting v = sym (stage_is (begins_at other)) ∙ f in cc)
 
 -- ---- all that it told
 

@@ -1,5 +1,5 @@
 -- The child ended after its send was refused, and before main saw the end of the scope; main closed the channel later: so it was open.
-use Rattle.std.specs.Prelude.{◌≡◌, ℕ, zero, suc, ◌<◌, ◌≤◌, false, List, [], ◌∷◌, Some, take}
+use Rattle.std.specs.Prelude.{◌≡◌, ℕ, suc, ◌<◌, ◌≤◌, false, List, [], ◌∷◌, Some, take}
 use Rattle.std.proofs.Common.{arith, ⊎_elim}
 use mathlib.Core.List.{IsPrefix}
 use Rattle.channel_model.specs.declared.acts.Act.TheVariants.{Await, Settle}
@@ -32,52 +32,28 @@ now = record { channels = channels; jobs = jobs }
 -- main has closed the channel
 close_came : (n : ℕ) → IsClosedWith 0 0 (replay (take n channels)) → 6 ≤ n
 unfolding replay_from
-close_came zero h = cc
-close_came (suc zero) h = cc
-close_came (suc (suc zero)) h = cc
-close_came (suc (suc (suc zero))) h = cc
-close_came (suc (suc (suc (suc zero)))) h = cc
-close_came (suc (suc (suc (suc (suc zero))))) h = cc
 close_came (suc (suc (suc (suc (suc (suc n)))))) h = omega arith
+close_came fewer h = cc
 
 -- the child's body has not ended
 child_goes_on : (n : ℕ) → job_acts_of 1 (take n jobs) ≡ [] → n ≤ 4
 unfolding job_acts_of
-child_goes_on zero e = omega arith
-child_goes_on (suc zero) e = omega arith
-child_goes_on (suc (suc zero)) e = omega arith
-child_goes_on (suc (suc (suc zero))) e = omega arith
-child_goes_on (suc (suc (suc (suc zero)))) e = omega arith
 child_goes_on (suc (suc (suc (suc (suc n))))) e = cc
+child_goes_on fewer e = omega arith
 
 -- ---- where main sees the end of the scope
 
 -- it has not closed the channel
 not_closed : (n : ℕ) → acts_of 0 (take n channels) ≡ Await 4 0 wait 0 ∷ Settle wait (Closed 0 0) ∷ [] → n ≤ 5
 unfolding acts_of
-not_closed zero e = omega arith
-not_closed (suc zero) e = omega arith
-not_closed (suc (suc zero)) e = omega arith
-not_closed (suc (suc (suc zero))) e = omega arith
-not_closed (suc (suc (suc (suc zero)))) e = omega arith
-not_closed (suc (suc (suc (suc (suc zero))))) e = omega arith
 not_closed (suc (suc (suc (suc (suc (suc n)))))) e = cc
+not_closed fewer e = omega arith
 
 -- the scope's Job has ended, and so has the child's
 scope_ended : (n : ℕ) → end_at (replay_jobs (take n jobs) 3) ≡ Some (Completed 0) → 11 ≤ n
 unfolding replay_jobs_from
-scope_ended zero e = cc
-scope_ended (suc zero) e = cc
-scope_ended (suc (suc zero)) e = cc
-scope_ended (suc (suc (suc zero))) e = cc
-scope_ended (suc (suc (suc (suc zero)))) e = cc
-scope_ended (suc (suc (suc (suc (suc zero))))) e = cc
-scope_ended (suc (suc (suc (suc (suc (suc zero)))))) e = cc
-scope_ended (suc (suc (suc (suc (suc (suc (suc zero))))))) e = cc
-scope_ended (suc (suc (suc (suc (suc (suc (suc (suc zero)))))))) e = cc
-scope_ended (suc (suc (suc (suc (suc (suc (suc (suc (suc zero))))))))) e = cc
-scope_ended (suc (suc (suc (suc (suc (suc (suc (suc (suc (suc zero)))))))))) e = cc
 scope_ended (suc (suc (suc (suc (suc (suc (suc (suc (suc (suc (suc n))))))))))) e = omega arith
+scope_ended fewer e = cc
 
 -- ---- no order
 

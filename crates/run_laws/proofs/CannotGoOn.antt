@@ -1,7 +1,8 @@
 -- A coroutine that a poll left where it was, and that was not ready, cannot go on, where nobody made an entry meanwhile.
 use Rattle.std.specs.Prelude.{◌≡◌, ◌≢◌, ℕ, ◌==◌, Bool, true, false, ◌||◌, List, [], ◌∷◌, Option, Some, None, refl, if◌then◌else◌}
 use Rattle.std.specs.List.{list_any}
-use Rattle.std.proofs.Common.{ap, sym, ◌∙◌, subst}
+use Rattle.std.proofs.Common.{ap, sym, ◌∙◌, subst, ⊎_elim}
+use Rattle.std.proofs.lemmas.Bool.{or_left, or_right, or_cases, cond_both}
 use Rattle.co_base.specs.declared.names.WaitId.{WaitId}
 use Rattle.channel_model.specs.declared.acts.Settled.{Settled}
 use Rattle.channel_model.specs.declared.standing.Resolution.{Resolution}
@@ -64,19 +65,16 @@ after_begun = after_stage is_fresh (λ w. refl) (λ failure. refl) refl refl
 
 await_begun : (x : Config) (end : End) (y : Config) → AfterAwait x end y → is_fresh y.stage ≡ false
 await_begun x _ _ (AfterAwait.completed v) = refl
-await_begun x _ _ AfterAwait.cancelled = refl
-await_begun x _ _ (AfterAwait.failed f) = refl
+await_begun x _ _ other = refl
 
 end_begun : (k : ℕ) (x : Config) (s : InScope) (a : Answer) (y : Config) → AtScopeEnd k x s a y → is_fresh y.stage ≡ false
 end_begun k x s _ _ (AtScopeEnd.waits w) = refl
-end_begun k x s _ _ (AtScopeEnd.closed v) = refl
-end_begun k x s _ _ AtScopeEnd.no_place = refl
+end_begun k x s _ _ other = refl
 
 scope_begun : (p : Program) (k : ℕ) (x : Config) (s : InScope) (end : End) (y : Config) → AfterScope p k x s end y
     → is_fresh y.stage ≡ false
 scope_begun p k x s _ _ (AfterScope.completed v e is) = refl
-scope_begun p k x s _ _ AfterScope.cancelled = refl
-scope_begun p k x s _ _ (AfterScope.failed f) = refl
+scope_begun p k x s _ _ other = refl
 
 -- no move leads to where it has not begun
 move_begun : (p : Program) (k : ℕ) (x : Config) (group : List Told) (y : Config) → Move p k x group y → is_fresh y.stage ≡ false
@@ -182,21 +180,11 @@ did_it : (test : JobAct → Bool) (k : ℕ) (history : List JobEntry) → list_a
     → list_any (λ (e : JobEntry). test e.act) history ≡ true
 unfolding job_acts_of
 did_it test k [] h = h
-did_it test k (e ∷ es) h = by_test (did_it test k es) (e.who == k) h
-  where
-    either : (a b c : Bool) → (b ≡ true → c ≡ true) → (a || b) ≡ true → (a || c) ≡ true
-    either true b c f q = refl
-    either false b c f q = f q
-
-    later : (b : Bool) → list_any (λ (e : JobEntry). test e.act) es ≡ true → (b || list_any (λ (e : JobEntry). test e.act) es) ≡ true
-    later true q = refl
-    later false q = q
-
-    by_test : (list_any test (job_acts_of k es) ≡ true → list_any (λ (e : JobEntry). test e.act) es ≡ true) → (b : Bool)
-        → list_any test (if b then e.act ∷ job_acts_of k es else job_acts_of k es) ≡ true
-        → (test e.act || list_any (λ (e : JobEntry). test e.act) es) ≡ true
-    by_test rest true q = either (test e.act) (list_any test (job_acts_of k es)) (list_any (λ (e : JobEntry). test e.act) es) rest q
-    by_test rest false q = later (test e.act) (rest q)
+did_it test k (e ∷ es) h =
+    cond_both (e.who == k) (e.act ∷ job_acts_of k es) (job_acts_of k es)
+    (λ acts. list_any test acts ≡ true → list_any (λ (x : JobEntry). test x.act) (e ∷ es) ≡ true)
+    (λ own q. ⊎_elim (λ t. or_left _ _ t) (λ t. or_right (test e.act) _ (did_it test k es t)) (or_cases (test e.act) _ q))
+    (λ other q. or_right (test e.act) _ (did_it test k es q)) h
 
 ended_left : (p : Program) (c : ChannelFloor) (j : Floor) (f : Frame) → Legal (floor_shape p) c.seen → LegalJobs (job_shape p) j.seen
     → StandsOn p c j f → f.config.stage ≡ Ended → IsLeftOn c j f

@@ -1,11 +1,11 @@
 -- At the end of a run the Close of its done channel stands right behind each Finish, whoever else made entries meanwhile: a note that it
 -- had been closed would need a Close by one that noted the same Finish.
-use Rattle.std.specs.Prelude.{◌≡◌, ◌≢◌, ℕ, length, ◌+◌, ◌<◌, ◌≤◌, ◌==◌, nat_le, nat_lt, cond, Bool, true, false, not, List, [], ◌∷◌, ◌++◌, is_some, Some, refl, if◌then◌else◌, ◌⊎◌}
+use Rattle.std.specs.Prelude.{◌≡◌, ◌≢◌, ℕ, ◌+◌, ◌<◌, ◌≤◌, ◌==◌, nat_le, cond, Bool, true, false, not, List, [], ◌∷◌, ◌++◌, is_some, Some, refl, if◌then◌else◌, ◌⊎◌}
 use Rattle.std.proofs.Common.{sym, ap, ◌∙◌, subst, inl, inr, ⊎_elim, arith}
-use Rattle.std.proofs.lemmas.Bool.{eqb-true, eq-eqb}
+use Rattle.std.proofs.lemmas.Bool.{eqb-true, eq-eqb, cases_eq, cases_lt, cond_both, cond-true}
 use Rattle.std.proofs.lemmas.Bool.Decides.{nat_tests}
 use Rattle.channel_model.specs.declared.acts.Act.{Act}
-use Rattle.channel_model.specs.declared.acts.Act.TheVariants.{Hand, Close}
+use Rattle.channel_model.specs.declared.acts.Act.TheVariants.{Close}
 use Rattle.channel_model.specs.declared.acts.Entry.{Entry}
 use Rattle.channel_model.specs.declared.acts.ChannelNote.{ChannelNote}
 use Rattle.channel_model.specs.declared.acts.ChannelNote.TheVariants as heard_as
@@ -29,7 +29,7 @@ use Rattle.job_model.proofs.RowMarks.{each_once}
 use Rattle.note_book.specs.declared.book.Item.{Item}
 use Rattle.note_book.specs.declared.book.Item.TheVariants as item
 use Rattle.note_book.specs.Items.{channel_acts_in, job_acts_in}
-use Rattle.call_meaning.specs.Telling.{Told, note, on_channels, on_jobs, items_in}
+use Rattle.call_meaning.specs.Telling.{Told, note, items_in}
 use Rattle.call_meaning.specs.Facts.{NoteHolds, IsClosedWith}
 use Rattle.call_meaning.specs.JobCalls.{value_of}
 use Rattle.call_meaning.specs.Stories.{Moment, beginning, Story, IsBy, IsTrue}
@@ -64,14 +64,12 @@ act_unclosed base row (Close c v) e = apart base row c e
   where
     apart : (base row c : ℕ) → not (nat_le base c) ≡ true → (c == (base + row)) ≡ false
     apart base row c e = grind (arith, nat_tests)
-act_unclosed base row (Hand c q v) e = refl
 act_unclosed base row other e = refl
 
 note_unclosed : (base row : ℕ) (n : ChannelNote) (more : List Item) → is_gentle_call base n ≡ true
     → closings (base + row) (item.Channel n ∷ more) ≡ closings (base + row) more
 note_unclosed base row (heard_as.Made act) more e = ap (λ b. cond b 1 0 + closings (base + row) more) (act_unclosed base row act e)
     ∙ none_here (closings (base + row) more)
-note_unclosed base row (heard_as.SendClosed c u v) more e = refl
 note_unclosed base row other more e = refl
 
 gentle_closings : (base row : ℕ) (i : Item) (more : List Item) → is_gentle base i ≡ true
@@ -87,15 +85,14 @@ note_unfinished : (row : ℕ) (n : JobNote) (more : List Item) → is_gentle_not
     → finishings row (item.Job n ∷ more) ≡ finishings row more
 note_unfinished row (known.Made act) more e = ap (λ b. cond b 1 0 + finishings row more) (act_unfinished row act e)
     ∙ none_here (finishings row more)
-note_unfinished row (known.Saw r) more e = refl
 note_unfinished row other more e = refl
 
 gentle_finishings : (base row : ℕ) (i : Item) (more : List Item) → is_gentle base i ≡ true → finishings row (i ∷ more) ≡ finishings row more
 gentle_finishings base row (item.Channel n) more e = refl
 gentle_finishings base row (item.Job n) more e = note_unfinished row n more e
 
-shifted : (base r row : ℕ) → ((base + r) == (base + row)) ≡ (row == r)
-shifted base r row = grind (arith, nat_tests)
+shifted : (base r row : ℕ) → ◌≡◌ {A = ℕ} (cond ((base + r) == (base + row)) 1 0) (cond (row == r) 1 0)
+shifted base r row = let same : ((base + r) == (base + row)) ≡ (row == r) = grind (arith, nat_tests) in ap (λ x. cond x 1 0) same
 
 -- each Close of a done channel stands behind a Finish of its Job
 few : (base row : ℕ) (items : List Item) → ClosesDones base items → closings (base + row) items ≤ finishings row items
@@ -105,11 +102,7 @@ few base row _ (ClosesDones.gentle i more e h) =
     let f = gentle_finishings base row i more e in
     let less = few base row more h in
     omega (arith, c, f, less)
-few base row _ (ClosesDones.closes r end more h) = by_same _ (shifted base r row) (few base row more h)
-  where
-    by_same : (b : Bool) → b ≡ (row == r) → closings (base + row) more ≤ finishings row more
-        → cond b 1 0 + closings (base + row) more ≤ cond (row == r) 1 0 + finishings row more
-    by_same b e less = let same : ◌≡◌ {A = ℕ} (cond b 1 0) (cond (row == r) 1 0) = ap (λ x. cond x 1 0) e in omega (arith, same, less)
+few base row _ (ClosesDones.closes r end more h) = let less = few base row more h in omega (arith, shifted base r row, less)
 few base row _ (ClosesDones.had_been r end v more h) = let less = few base row more h in omega (arith, less)
 
 -- ---- where a Finish is not followed by the Close
@@ -128,14 +121,8 @@ act_next base (Finish q end) more e = cc
 act_next base other more e = tt
 
 gentle_next : (base : ℕ) (i : Item) (more : List Item) → is_gentle base i ≡ true → IsClosedNext base (finish_of i) more
-gentle_next base (item.Channel n) more e = tt
 gentle_next base (item.Job (known.Made act)) more e = act_next base act more e
-gentle_next base (item.Job (known.Saw r)) more e = tt
-gentle_next base (item.Job (known.SawEnd r end)) more e = tt
-gentle_next base (item.Job (known.Fail code)) more e = tt
-gentle_next base (item.Job known.NoRow) more e = tt
-gentle_next base (item.Job known.Used) more e = tt
-gentle_next base (item.Job known.ParentEnded) more e = tt
+gentle_next base other more e = tt
 
 closes_or_misses : (base : ℕ) (items : List Item) → ClosesDones base items → Misses base items ⊎ ClosesAtOnce base items
 closes_or_misses base _ ClosesDones.none = inr tt
@@ -160,14 +147,10 @@ closes_or_misses base _ (ClosesDones.closes r end more h) = ⊎_elim
       before = finish_note r end ∷ close_note (done_channel base r) (value_of end) ∷ m.before;
       after = m.after;
       parts = ap (λ l. finish_note r end ∷ close_note (done_channel base r) (value_of end) ∷ l) m.parts;
-      more = by_same m.row _ (shifted base r m.row) m.more;
+      more = let less = m.more in omega (arith, shifted base r m.row, less);
     }))
     (λ (c : ClosesAtOnce base more). inr (refl, (tt, c)))
     (closes_or_misses base more h)
-  where
-    by_same : (row : ℕ) (b : Bool) → b ≡ (row == r) → closings (base + row) more + 1 ≤ finishings row more
-        → cond b 1 0 + closings (base + row) more + 1 ≤ cond (row == r) 1 0 + finishings row more
-    by_same row b e less = let same : ◌≡◌ {A = ℕ} (cond b 1 0) (cond (row == r) 1 0) = ap (λ x. cond x 1 0) e in omega (arith, same, less)
 closes_or_misses base _ (ClosesDones.had_been r end v more h) = inl (record {
   row = r;
   end = end;
@@ -191,29 +174,20 @@ zero_from_each : (test : Act → Bool) (es : List Entry) → ((u : ℕ) → how_
 unfolding acts_of
 zero_from_each test [] h = refl
 zero_from_each test (e ∷ es) h =
-    let rest = zero_from_each test es (λ u. later u (e.who == u) (h u)) in
-    ap (λ b. cond b 1 0 + how_many (λ (x : Entry). test x.act) es) (own (e.who == e.who) (eq-eqb e.who e.who refl) (h e.who)) ∙ none_here _
-    ∙ rest
-  where
-    own : (b : Bool) → b ≡ true → how_many test (if b then e.act ∷ acts_of e.who es else acts_of e.who es) ≡ 0 → test e.act ≡ false
-    own true f g = of_none (test e.act) (how_many test (acts_of e.who es)) g
-    own false f g = cc
-
-    later : (u : ℕ) (b : Bool) → how_many test (if b then e.act ∷ acts_of u es else acts_of u es) ≡ 0 → how_many test (acts_of u es) ≡ 0
-    later u true g = omega (arith, g)
-    later u false g = g
+    let here = ap (how_many test) (cond-true (e.who == e.who) (e.act ∷ acts_of e.who es) (acts_of e.who es) (eq-eqb e.who e.who refl)) in
+    ap (λ b. cond b 1 0 + how_many (λ (x : Entry). test x.act) es) (of_none (test e.act) _ (sym here ∙ h e.who)) ∙ none_here _
+    ∙ zero_from_each test es (λ u. cond_both (e.who == u) (e.act ∷ acts_of u es) (acts_of u es)
+    (λ acts. how_many test acts ≡ 0 → how_many test (acts_of u es) ≡ 0) (λ own g. omega (arith, g)) (λ other g. g) (h u))
 
 one_part : (test : JobAct → Bool) (k : ℕ) (es : List JobEntry)
     → how_many test (job_acts_of k es) ≤ how_many (λ (e : JobEntry). test e.act) es
 unfolding job_acts_of
 one_part test k [] = omega arith
-one_part test k (e ∷ es) = by_who (e.who == k) (one_part test k es)
-  where
-    by_who : (b : Bool) → how_many test (job_acts_of k es) ≤ how_many (λ (x : JobEntry). test x.act) es
-        → how_many test (if b then e.act ∷ job_acts_of k es else job_acts_of k es) ≤ cond (test e.act) 1 0 + how_many
-        (λ (x : JobEntry). test x.act) es
-    by_who true h = omega (arith, h)
-    by_who false h = omega (arith, h)
+one_part test k (e ∷ es) =
+    let h = one_part test k es in
+    cond_both (e.who == k) (e.act ∷ job_acts_of k es) (job_acts_of k es)
+    (λ acts. how_many test acts ≤ cond (test e.act) 1 0 + how_many (λ (x : JobEntry). test x.act) es) (λ own. omega (arith, h))
+    (λ other. omega (arith, h))
 
 two_parts : (test : JobAct → Bool) (u k : ℕ) (es : List JobEntry) → u ≢ k
     → how_many test (job_acts_of u es) + how_many test (job_acts_of k es) ≤ how_many (λ (e : JobEntry). test e.act) es
@@ -232,14 +206,7 @@ two_parts test u k (e ∷ es) n = by_who (e.who == u) refl (e.who == k) refl (tw
 
 counted : (row : ℕ) (es : List JobEntry) → count_of finishes row es ≡ how_many (λ (e : JobEntry). finishes row e.act) es
 counted row [] = refl
-counted row (e ∷ es) = by_test (finishes row e.act) refl (counted row es)
-  where
-    by_test : (b : Bool) → finishes row e.act ≡ b → count_of finishes row es ≡ how_many (λ (x : JobEntry). finishes row x.act) es
-        → count_of finishes row (e ∷ es) ≡ cond (finishes row e.act) 1 0 + how_many (λ (x : JobEntry). finishes row x.act) es
-    by_test true f h = count-cons finishes row e es true f ∙ ap (λ n. 1 + n) h
-        ∙ ap (λ b. cond b 1 0 + how_many (λ (x : JobEntry). finishes row x.act) es) (sym f)
-    by_test false f h = count-cons finishes row e es false f ∙ ap (λ n. 0 + n) h
-        ∙ ap (λ b. cond b 1 0 + how_many (λ (x : JobEntry). finishes row x.act) es) (sym f)
+counted row (e ∷ es) = count-cons finishes row e es (finishes row e.act) refl ∙ ap (λ n. cond (finishes row e.act) 1 0 + n) (counted row es)
 
 finished_once : (shape : Shape) (jobs : List JobEntry) (row : ℕ) → LegalJobs shape jobs
     → how_many (λ (e : JobEntry). finishes row e.act) jobs ≤ 1
@@ -260,8 +227,7 @@ note_so s items earlier (note x ∷ told) i [] after h e = (
 )
 note_so s items earlier (note x ∷ told) i (b ∷ before) after h e =
     note_so s (items ++ x ∷ []) h.0 told i before after h.2 (same_tail x b (items_in told) (before ++ i ∷ after) e).1
-note_so s items earlier (on_channels fact ∷ told) i before after h e = note_so s items h.0 told i before after h.2 e
-note_so s items earlier (on_jobs fact ∷ told) i before after h e = note_so s items h.0 told i before after h.2 e
+note_so s items earlier (other ∷ told) i before after h e = note_so s items h.0 told i before after h.2 e
 
 -- ---- the run
 
@@ -299,7 +265,10 @@ closes_of p books channels jobs ok parts k lt =
 
         -- nobody closed it
         unclosed : (u : ℕ) → how_many (closes d) (acts_of u channels) ≡ 0
-        unclosed u = ap (how_many (closes d)) (parts.channel_parts u) ∙ by_range (nat_lt u (coroutine_count p)) refl
+        unclosed u = ap (how_many (closes d)) (parts.channel_parts u) ∙ ⊎_elim
+            (λ below. ⊎_elim own (λ n. other n below) (cases_eq u k))
+            (λ le. let count = parts.count in ap (closings d) (no_book books u (omega (arith, count, le))))
+            (cases_lt u (coroutine_count p))
           where
             own : u ≡ k → closings d (book_at u books) ≡ 0
             own e = let more = m.more in let same : closings d (book_at u books) ≡ closings d (book_at k books) =
@@ -313,23 +282,6 @@ closes_of p books channels jobs ok parts k lt =
                 let is = ap (how_many (finishes m.row)) (parts.job_parts k) in
                 let more = m.more in
                 omega (arith, less, both, theirs, is, more, once)
-
-            by_same : (b : Bool) → (u == k) ≡ b → u < coroutine_count p → closings d (book_at u books) ≡ 0
-            by_same true e below = own (eqb-true u k e)
-            by_same false e below = other (λ q. differs q e) below
-              where
-                differs : u ≡ k → (u == k) ≡ false → ⊥
-                differs q f = grind (arith, nat_tests)
-
-            by_range : (b : Bool) → nat_lt u (coroutine_count p) ≡ b → closings d (book_at u books) ≡ 0
-            by_range true e = by_same (u == k) refl (below e)
-              where
-                below : nat_lt u (coroutine_count p) ≡ true → u < coroutine_count p
-                below f = grind (arith, nat_tests)
-            by_range false e = ap (closings d) (no_book books u (past e))
-              where
-                past : nat_lt u (coroutine_count p) ≡ false → length books ≤ u
-                past f = let count = parts.count in let le : coroutine_count p ≤ u = grind (arith, nat_tests) in omega (arith, count, le)
 
         -- and yet it was seen closed
         runs : Runs p k (record { channels = channels; jobs = jobs }) (book_at k books) (parts.ends_at k)
@@ -353,14 +305,8 @@ closes_of p books channels jobs ok parts k lt =
 -- right behind each Finish stands the Close of its done channel
 pub closes_always : (p : Program) (books : List (List Item)) (channels : List Entry) (jobs : List JobEntry) → IsProgram p
     → AreParts p books channels jobs → (k : ℕ) → ClosesAtOnce (base_of p) (book_at k books)
-closes_always p books channels jobs ok parts k = by_test (nat_lt k (coroutine_count p)) refl
-  where
-    by_test : (b : Bool) → nat_lt k (coroutine_count p) ≡ b → ClosesAtOnce (base_of p) (book_at k books)
-    by_test true e = closes_of p books channels jobs ok parts k (below e)
-      where
-        below : nat_lt k (coroutine_count p) ≡ true → k < coroutine_count p
-        below f = grind (arith, nat_tests)
-    by_test false e = subst (ClosesAtOnce (base_of p)) (sym (no_book books k (past e))) (closes_none (base_of p))
-      where
-        past : nat_lt k (coroutine_count p) ≡ false → length books ≤ k
-        past f = let count = parts.count in let le : coroutine_count p ≤ k = grind (arith, nat_tests) in omega (arith, count, le)
+closes_always p books channels jobs ok parts k = ⊎_elim
+    (closes_of p books channels jobs ok parts k)
+    (λ le. let count = parts.count
+    in subst (ClosesAtOnce (base_of p)) (sym (no_book books k (omega (arith, count, le)))) (closes_none (base_of p)))
+    (cases_lt k (coroutine_count p))

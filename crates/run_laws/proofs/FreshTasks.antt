@@ -3,7 +3,7 @@ use Rattle.std.specs.Prelude.{◌≡◌, ◌≢◌, ℕ, ◌<◌, ◌==◌, Bool
 use Rattle.std.specs.List.{list_any}
 use Rattle.std.proofs.Common.{sym, ap, ◌∙◌, subst}
 use Rattle.std.proofs.lemmas.List.{append-nil}
-use Rattle.std.proofs.lemmas.Bool.{eqb-true}
+use Rattle.std.proofs.lemmas.Bool.{ne_eqb}
 use Rattle.co_base.proofs.Orders.{order_same}
 use Rattle.channel_model.specs.Histories.{acts_of}
 use Rattle.channel_model.specs.Floors.{Floor as ChannelFloor, Looked}
@@ -77,11 +77,7 @@ runs_fresh p k now n = record {
 }
 
 pub none_owned : (k r : ℕ) → k ≢ 0 → is_among r (own_rows k []) ≡ false
-none_owned k r n = by_test (k == 0) refl
-  where
-    by_test : (b : Bool) → (k == 0) ≡ b → is_among r ((if b then 0 ∷ [] else []) ++ rows_in (job_acts_in [])) ≡ false
-    by_test true e = absurd (n (eqb-true k 0 e))
-    by_test false e = is_among-rows_in r []
+none_owned k r n = ap (λ b. is_among r ((if b then 0 ∷ [] else []) ++ rows_in (job_acts_in []))) (ne_eqb k 0 n) ∙ is_among-rows_in r []
 
 pub keeps_fresh : (p : Program) (k : ℕ) (f : Frame) (c : ChannelFloor) (j : Floor) → k < coroutine_count p → k ≢ 0 → f.tag ≡ k
     → f.config ≡ fresh k → f.book ≡ [] → IsUntouched p k c j → Keeps p (sight f c j)

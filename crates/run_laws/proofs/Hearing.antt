@@ -1,5 +1,5 @@
 -- What a coroutine keeps when it is polled, and when it hears of what others did.
-use Rattle.std.specs.Prelude.{◌≡◌, ◌≢◌, ℕ, ◌≤◌, Bool, true, false, ◌||◌, [], ◌++◌, length, Option, Some, None, option_map, refl}
+use Rattle.std.specs.Prelude.{◌≡◌, ◌≢◌, ℕ, ◌≤◌, Bool, true, ◌||◌, [], ◌++◌, length, Option, Some, None, option_map, refl}
 use Rattle.co_base.proofs.Orders.{order_same, order_then}
 use Rattle.std.proofs.Common.{sym, ap, ◌∙◌, subst, arith, length-append}
 use Rattle.std.proofs.lemmas.List.{append-nil, nil_from_length}
@@ -12,6 +12,7 @@ use Rattle.job_model.specs.declared.acts.JobState.TheVariants.{New}
 use Rattle.job_model.specs.declared.floor.JobView.{JobView}
 use Rattle.job_model.specs.Trees.{Job}
 use Rattle.job_model.specs.Histories.{acts_of as job_acts_of, Legal as LegalJobs}
+use Rattle.job_model.proofs.Spans.{or_nothing}
 use Rattle.job_model.specs.Floors.{Floor, Looked, AtStep, is_claimed_by}
 use Rattle.job_model.specs.Answers.{view_of, LookAnswer}
 use Rattle.note_book.specs.Items.{channel_acts_in, job_acts_in}
@@ -76,12 +77,8 @@ looked_others who c j j' h = record {
   more_jobs = h.longer;
   channel_acts = refl;
   job_acts = h.mine;
-  claims = λ r. h.claims.mine r ∙ or_none (is_claimed_by who (j.claims r));
+  claims = λ r. h.claims.mine r ∙ sym (or_nothing (is_claimed_by who (j.claims r)));
 }
-  where
-    or_none : (b : Bool) → (b || false) ≡ b
-    or_none true = refl
-    or_none false = refl
 
 pub keeps_looked : (p : Program) (f : Frame) (c : ChannelFloor) (j j' : Floor) → Looked f.tag [] j j' → Keeps p (sight f c j)
     → Keeps p (sight f c j')
@@ -285,9 +282,4 @@ seen_then a b c h g = record { frame = g.frame ∙ h.frame; channels = g.channel
 
 -- what saw all of one saw all of what is seen to be the same
 pub within_from : (m s s' : Sight) → IsSeenSame s s' → IsWithin s' m → IsWithin s m
-within_from m s s' same w = record {
-  channels = subst (λ (x : ChannelFloor). IsPrefix x.seen m.channels.seen) same.channels w.channels;
-  jobs = subst (λ (x : Floor). IsPrefix x.seen m.jobs.seen) same.jobs w.jobs;
-  order = subst (λ (x : ChannelFloor). IsPrefix x.order m.channels.order) same.channels w.order;
-  job_order = subst (λ (x : Floor). IsPrefix x.order m.jobs.order) same.jobs w.job_order;
-}
+within_from m s s' same = within_same m s' s (record { frame = sym same.frame; channels = sym same.channels; jobs = sym same.jobs })

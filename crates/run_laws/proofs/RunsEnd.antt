@@ -1,9 +1,8 @@
 -- A run ends at rest where a last round came to nothing and all was brought together after it.
-use Rattle.std.specs.Prelude.{◌≡◌, ℕ, zero, suc, ◌+◌, ◌<◌, ◌≤◌, nat_lt, ◌==◌, ◌⊎◌, Bool, true, false, List, [], ◌∷◌, length, map, Option, Some, None, slice_get, refl}
+use Rattle.std.specs.Prelude.{◌≡◌, ℕ, zero, suc, ◌+◌, ◌<◌, ◌≤◌, ◌==◌, ◌⊎◌, true, false, List, [], ◌∷◌, length, map, Option, Some, None, slice_get, refl}
 use Rattle.std.specs.List.{All, list_any}
-use Rattle.std.proofs.Common.{sym, ap, ◌∙◌, subst, inl, inr, arith}
-use Rattle.std.proofs.lemmas.Bool.{eqb-true, eq-eqb, ltb-true, ltb-false}
-use Rattle.std.proofs.lemmas.Bool.Decides.{nat_tests}
+use Rattle.std.proofs.Common.{sym, ap, ◌∙◌, subst, inl, inr, ⊎_elim, arith}
+use Rattle.std.proofs.lemmas.Bool.{eq-eqb, cases_eq, cases_lt}
 use Rattle.std.proofs.lemmas.List.{length-map}
 use mathlib.Core.List.{IsPrefix}
 use Rattle.std.proofs.lemmas.Option.{slice_get_past, same_Some}
@@ -126,12 +125,10 @@ module _ (p : Program) (first : Sight) (sights : List Sight) (c : ChannelFloor) 
   known_at k s e = all_at (KnowsAllOf first) sights k s h.known e
 
   within_count : (k : ℕ) (s : Sight) → slice_get sights k ≡ Some s → k < coroutine_count p
-  within_count k s e = by_test (nat_lt k (coroutine_count p)) refl
-    where
-      by_test : (b : Bool) → nat_lt k (coroutine_count p) ≡ b → k < coroutine_count p
-      by_test true f = ltb-true k (coroutine_count p) f
-      by_test false f = absurd (let le = ltb-false k (coroutine_count p) f in let count = h.count
-          in let none = slice_get_past sights k (omega (arith, le, count)) in let q : Some s ≡ None = sym e ∙ none in cc)
+  within_count k s e = ⊎_elim
+      (λ lt. lt)
+      (λ le. let count = h.count in let q : Some s ≡ None = sym e ∙ slice_get_past sights k (omega (arith, le, count)) in cc)
+      (cases_lt k (coroutine_count p))
 
   -- ---- one history
 
@@ -151,7 +148,10 @@ module _ (p : Program) (first : Sight) (sights : List Sight) (c : ChannelFloor) 
 
   calls_of : (k : ℕ) → acts_of k c.seen ≡ acts_of k first.channels.seen
   unfolding acts_of
-  calls_of k = by_test (nat_lt k (coroutine_count p)) refl
+  calls_of k = ⊎_elim
+      (λ lt. let x = the_sight k lt in own x.0 x.1)
+      (λ le. calls_between k [] first.channels.seen c.seen (first.channels.seen, refl) first_calls (h.others.calls k le))
+      (cases_lt k (coroutine_count p))
     where
       own : (s : Sight) → slice_get sights k ≡ Some s → acts_of k c.seen ≡ acts_of k first.channels.seen
       own s e =
@@ -161,17 +161,12 @@ module _ (p : Program) (first : Sight) (sights : List Sight) (c : ChannelFloor) 
           calls_between k known.past.channels.seen first.channels.seen c.seen known.within.channels first_calls
           (subst (λ n. acts_of n c.seen ≡ acts_of n known.past.channels.seen) (tag_of k s e) all)
 
-      by_test : (b : Bool) → nat_lt k (coroutine_count p) ≡ b → acts_of k c.seen ≡ acts_of k first.channels.seen
-      by_test true f = let x = the_sight k (ltb-true k (coroutine_count p) f) in own x.0 x.1
-      by_test false f = calls_between k [] first.channels.seen c.seen (first.channels.seen, refl) first_calls
-          (h.others.calls k (ltb-false k (coroutine_count p) f) ∙ none)
-        where
-          none : [] ≡ acts_of k []
-          none = refl
-
   jobs_of : (k : ℕ) → job_acts_of k j.seen ≡ job_acts_of k first.jobs.seen
   unfolding job_acts_of
-  jobs_of k = by_test (nat_lt k (coroutine_count p)) refl
+  jobs_of k = ⊎_elim
+      (λ lt. let x = the_sight k lt in own x.0 x.1)
+      (λ le. jobs_between k [] first.jobs.seen j.seen (first.jobs.seen, refl) first_jobs (h.others.jobs k le))
+      (cases_lt k (coroutine_count p))
     where
       own : (s : Sight) → slice_get sights k ≡ Some s → job_acts_of k j.seen ≡ job_acts_of k first.jobs.seen
       own s e =
@@ -180,14 +175,6 @@ module _ (p : Program) (first : Sight) (sights : List Sight) (c : ChannelFloor) 
           let all : job_acts_of s.frame.tag j.seen ≡ job_acts_of s.frame.tag known.past.jobs.seen = there.same.jobs ∙ known.same.jobs in
           jobs_between k known.past.jobs.seen first.jobs.seen j.seen known.within.jobs first_jobs
           (subst (λ n. job_acts_of n j.seen ≡ job_acts_of n known.past.jobs.seen) (tag_of k s e) all)
-
-      by_test : (b : Bool) → nat_lt k (coroutine_count p) ≡ b → job_acts_of k j.seen ≡ job_acts_of k first.jobs.seen
-      by_test true f = let x = the_sight k (ltb-true k (coroutine_count p) f) in own x.0 x.1
-      by_test false f = jobs_between k [] first.jobs.seen j.seen (first.jobs.seen, refl) first_jobs
-          (h.others.jobs k (ltb-false k (coroutine_count p) f) ∙ none)
-        where
-          none : [] ≡ job_acts_of k []
-          none = refl
 
   same_channels : c.seen ≡ first.channels.seen
   same_channels = same_calls first.channels.seen c.seen first_calls calls_of
@@ -214,28 +201,20 @@ module _ (p : Program) (first : Sight) (sights : List Sight) (c : ChannelFloor) 
   book : (k : ℕ) (o : Option Sight) → slice_get sights k ≡ o → book_at k (books_in sights) ≡ book_in o
   book k o e = book_at-map sights k ∙ ap book_in e
 
+  past : (k : ℕ) → slice_get sights k ≡ None → coroutine_count p ≤ k
+  past k e = ⊎_elim
+      (λ lt. let x = the_sight k lt in let q : Some x.0 ≡ None = sym x.1 ∙ e in cc)
+      (λ le. le)
+      (cases_lt k (coroutine_count p))
+
   calls_in : (k : ℕ) → (o : Option Sight) → slice_get sights k ≡ o → acts_of k c.seen ≡ channel_acts_in (book_at k (books_in sights))
   calls_in k None e = h.others.calls k (past k e) ∙ ap channel_acts_in (sym (book k None e))
-    where
-      past : (k : ℕ) → slice_get sights k ≡ None → coroutine_count p ≤ k
-      past k e = by_test (nat_lt k (coroutine_count p)) refl
-        where
-          by_test : (b : Bool) → nat_lt k (coroutine_count p) ≡ b → coroutine_count p ≤ k
-          by_test true f = absurd (let x = the_sight k (ltb-true k (coroutine_count p) f) in let q : Some x.0 ≡ None = sym x.1 ∙ e in cc)
-          by_test false f = ltb-false k (coroutine_count p) f
   calls_in k (Some s) e =
       let on = stands_there p c j s (brought_at k s e) in
       ap (λ n. acts_of n c.seen) (sym (tag_of k s e)) ∙ on.channel_acts ∙ ap channel_acts_in (sym (book k (Some s) e))
 
   job_calls_in : (k : ℕ) → (o : Option Sight) → slice_get sights k ≡ o → job_acts_of k j.seen ≡ job_acts_in (book_at k (books_in sights))
   job_calls_in k None e = h.others.jobs k (past k e) ∙ ap job_acts_in (sym (book k None e))
-    where
-      past : (k : ℕ) → slice_get sights k ≡ None → coroutine_count p ≤ k
-      past k e = by_test (nat_lt k (coroutine_count p)) refl
-        where
-          by_test : (b : Bool) → nat_lt k (coroutine_count p) ≡ b → coroutine_count p ≤ k
-          by_test true f = absurd (let x = the_sight k (ltb-true k (coroutine_count p) f) in let q : Some x.0 ≡ None = sym x.1 ∙ e in cc)
-          by_test false f = ltb-false k (coroutine_count p) f
   job_calls_in k (Some s) e =
       let on = stands_there p c j s (brought_at k s e) in
       ap (λ n. job_acts_of n j.seen) (sym (tag_of k s e)) ∙ on.job_acts ∙ ap job_acts_in (sym (book k (Some s) e))
@@ -262,43 +241,28 @@ module _ (p : Program) (first : Sight) (sights : List Sight) (c : ChannelFloor) 
 
   -- ---- no refusal
 
+  -- the coroutine that stands for a tag
+  meant : (t : ℕ) → t < coroutine_count p → (g : Meant) × StandsOn p c j g × (g.tag ≡ t)
+  meant t lt = let x = the_sight t lt in (x.0.frame, stands_there p c j x.0 (brought_at t x.0 x.1), tag_of t x.0 x.1)
+
   claimed : AreClaimed p c j
-  claimed r t e = by_test (nat_lt t (coroutine_count p)) refl
+  claimed r t e = ⊎_elim (meant t) (λ le. absurd (never le)) (cases_lt t (coroutine_count p))
     where
-      here : (s : Sight) → slice_get sights t ≡ Some s → (g : Meant) × StandsOn p c j g × (g.tag ≡ t)
-      here s f = (s.frame, stands_there p c j s (brought_at t s f), tag_of t s f)
-
       never : coroutine_count p ≤ t → ⊥
-      never le = by_row (r == 0) refl
-        where
-          by_row : (b : Bool) → (r == 0) ≡ b → ⊥
-          by_row true f =
-              let root : Some t ≡ Some 0 = sym e ∙ ap j.claims (eqb-true r 0 f) ∙ h.root_claimed in
-              let zero_tag : t ≡ 0 = same_Some t 0 root in
-              let some = some_coroutine p h.ok in
-              omega (arith, le, zero_tag, some)
-          by_row false f =
-              let no = h.others.claims r t le (λ q. row_zero q f) in
-              let yes : is_claimed_by t (j.claims r) ≡ true = ap (is_claimed_by t) e ∙ eq-eqb t t refl in
-              let both : true ≡ false = sym yes ∙ no in
-              cc
-            where
-              row_zero : r ≡ 0 → (r == 0) ≡ false → ⊥
-              row_zero q f = grind (arith, nat_tests)
-
-      by_test : (b : Bool) → nat_lt t (coroutine_count p) ≡ b → (g : Meant) × StandsOn p c j g × (g.tag ≡ t)
-      by_test true f = let x = the_sight t (ltb-true t (coroutine_count p) f) in here x.0 x.1
-      by_test false f = absurd (never (ltb-false t (coroutine_count p) f))
+      never le = ⊎_elim
+          (λ f.
+          let root : Some t ≡ Some 0 = sym e ∙ ap j.claims f ∙ h.root_claimed in
+          let zero_tag : t ≡ 0 = same_Some t 0 root in
+          let some = some_coroutine p h.ok in
+          omega (arith, le, zero_tag, some))
+          (λ f.
+          let yes : is_claimed_by t (j.claims r) ≡ true = ap (is_claimed_by t) e ∙ eq-eqb t t refl in
+          let both : true ≡ false = sym yes ∙ h.others.claims r t le f in
+          cc)
+          (cases_eq r 0)
 
   noted : AllNoted p c j
-  noted t = by_test (nat_lt t (coroutine_count p)) refl
-    where
-      here : (s : Sight) → slice_get sights t ≡ Some s → (g : Meant) × StandsOn p c j g × (g.tag ≡ t)
-      here s f = (s.frame, stands_there p c j s (brought_at t s f), tag_of t s f)
-
-      by_test : (b : Bool) → nat_lt t (coroutine_count p) ≡ b → (acts_of t c.seen ≡ []) ⊎ ((g : Meant) × StandsOn p c j g × (g.tag ≡ t))
-      by_test true f = let x = the_sight t (ltb-true t (coroutine_count p) f) in inr (here x.0 x.1)
-      by_test false f = inl (h.others.calls t (ltb-false t (coroutine_count p) f))
+  noted t = ⊎_elim (λ lt. inr (meant t lt)) (λ le. inl (h.others.calls t le)) (cases_lt t (coroutine_count p))
 
   unrefused : (k : ℕ) → (o : Option Sight) → slice_get sights k ≡ o
       → list_any (is_refusal (base_of p)) (book_at k (books_in sights)) ≡ false

@@ -15,7 +15,7 @@ use Rattle.job_model.proofs.Histories.{acts_of-append as job_acts_of-append}
 use Rattle.note_book.specs.declared.book.Item.{Item}
 use Rattle.note_book.specs.Items.{channel_acts_in, job_acts_in}
 use Rattle.note_book.proofs.Appended.{channel_acts_in-append, job_acts_in-append}
-use Rattle.call_meaning.specs.Telling.{Told, note, on_channels, on_jobs, items_in}
+use Rattle.call_meaning.specs.Telling.{Told, note, items_in}
 use Rattle.call_meaning.specs.Facts.{ToldHolds}
 use Rattle.call_meaning.specs.Stories.{Moment, IsBy, IsTrue, story_of}
 use Rattle.co_base.specs.Orders.{Side, channel_entries_in, job_entries_in}
@@ -112,15 +112,9 @@ module _ (shape : Shape) (k : ℕ) (old now : Moment) (order : List Side) (book 
             (subst (λ l. IsTrueAlong (story_of shape k now) (order ++ sides_of l) (book ++ (done ++ i ∷ [])) (order ++ sides_of done) more)
             (append_assoc done (i ∷ []) (items_in more)) tail),
       )
-  told_along done (on_channels fact ∷ more) earlier before b pre (at, so, rest) =
+  told_along done (other ∷ more) earlier before b pre (at, so, rest) =
       let after = by_then old earlier at b so.not_before in (
         order ++ sides_of done,
-        so_along done (items_in more) (on_channels fact) earlier at before after so.not_after so.channel_acts so.job_acts so.holds pre,
-        told_along done more at (order ++ sides_of done) after ([], append-nil (order ++ sides_of done)) rest,
-      )
-  told_along done (on_jobs fact ∷ more) earlier before b pre (at, so, rest) =
-      let after = by_then old earlier at b so.not_before in (
-        order ++ sides_of done,
-        so_along done (items_in more) (on_jobs fact) earlier at before after so.not_after so.channel_acts so.job_acts so.holds pre,
+        so_along done (items_in more) other earlier at before after so.not_after so.channel_acts so.job_acts so.holds pre,
         told_along done more at (order ++ sides_of done) after ([], append-nil (order ++ sides_of done)) rest,
       )

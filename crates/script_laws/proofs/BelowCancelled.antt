@@ -1,14 +1,15 @@
 -- At the end of a run all below a cancelled Job is Cancelling or ended.
 use Rattle.std.proofs.Common.{◌≡◌, ℕ, Bool, true, false, ◌&&◌, List, [], ◌∷◌, ◌++◌, refl, ap, sym, ◌∙◌, subst, inl, inr, ◌⊎◌, ⊎_elim, Option, Some, None, if◌then◌else◌}
 use Rattle.std.specs.Prelude.{◌==◌, map}
-use Rattle.std.proofs.lemmas.Bool.{eqb-true, both_ways}
+use Rattle.std.proofs.lemmas.Bool.{eqb-true, both_ways, false_from_ne_true, and_from, and_parts}
 use Rattle.channel_model.specs.declared.acts.Entry.{Entry}
+use Rattle.job_model.specs.declared.acts.End.{End}
 use Rattle.job_model.specs.declared.acts.JobState.{JobState}
-use Rattle.job_model.specs.declared.acts.JobState.TheVariants.{New, Active, Completing, Cancelling, Cancelled, Completed}
+use Rattle.job_model.specs.declared.acts.JobState.TheVariants.{New, Cancelling, Cancelled, Completed}
 use Rattle.job_model.specs.declared.acts.Reason.{Reason}
 use Rattle.job_model.specs.declared.acts.Reason.TheVariants as reasons
 use Rattle.job_model.specs.declared.acts.JobAct.{JobAct}
-use Rattle.job_model.specs.declared.acts.JobAct.TheVariants.{Attach, Cancel}
+use Rattle.job_model.specs.declared.acts.JobAct.TheVariants.{Attach, Cancel, Finish, Gone}
 use Rattle.job_model.specs.declared.acts.JobEntry.{JobEntry}
 use Rattle.job_model.specs.Effects.{after, first_state}
 use Rattle.job_model.specs.Trees.{Job, Tree, root, start, parent_of, is_ended, is_cancelled, is_cancelling, is_cancellable, is_among}
@@ -111,19 +112,19 @@ pass_pays k r d row reason newly g s = subst (BelowPaid k r d) (sym s.all)
     ++ s.below) refl (covered r (on_jobs (PassedBelow row s.below)) (own_cancel newly row reason
     ++ s.below) (λ x a. own_or_below r row newly reason s.below x)))
 
-chain_calm : (p : Program) (k r d row : ℕ) (g : List Told) → Chain (base_of p) row g → BelowPaid k r d g
+-- where neither the end of a Job nor what is told of it raises a debt, a chain pays
+pub chain_calm : (p : Program) (k : ℕ) (owes : Tree → Bool) (Raises : JobAct → Type 0) (Takes : JobAct → Told → Type 0)
+    → ((row : ℕ) (end : End) → Raises (Finish row end) → ⊥) → ((row : ℕ) → Raises (Gone row) → ⊥)
+    → (row : ℕ) (g : List Told) → Chain (base_of p) row g → JobPaid k owes Raises Takes g
 unfolding AllPaid
-chain_calm p k r d _ _ (Chain.stops row) = (tt, tt)
-chain_calm p k r d _ _ (Chain.root end closes c) = (
-  λ x. absurd x,
-  paid_quiet k (owes_below r d) (IsCancelOf r) (TakesBelow r) closes (quiet_closes _ _ closes c),
-)
-chain_calm p k r d row g (Chain.goes_up _ parent end closes rest _ n c up e) =
-    subst (BelowPaid k r d) (sym e) (
-      λ x. absurd x,
-      paid_then k (owes_below r d) (IsCancelOf r) (TakesBelow r) closes _
-          (paid_quiet k (owes_below r d) (IsCancelOf r) (TakesBelow r) closes (quiet_closes _ _ closes c))
-          (λ x. absurd x, (tt, chain_calm p k r d parent rest up)),
+chain_calm p k owes Raises Takes n m _ _ (Chain.stops row) = (tt, tt)
+chain_calm p k owes Raises Takes n m _ _ (Chain.root end closes c) =
+    (λ x. absurd (n 0 end x), paid_quiet k owes Raises Takes closes (quiet_closes _ _ closes c))
+chain_calm p k owes Raises Takes n m row g (Chain.goes_up _ parent end closes rest _ u c up e) =
+    subst (JobPaid k owes Raises Takes) (sym e) (
+      λ x. absurd (n row end x),
+      paid_then k owes Raises Takes closes _ (paid_quiet k owes Raises Takes closes (quiet_closes _ _ closes c))
+          (λ x. absurd (m row x), (tt, chain_calm p k owes Raises Takes n m parent rest up)),
     )
 
 below_pieces : (p : Program) (r d k : ℕ) (g : List Told) → JobPiece p k g → BelowPaid k r d g
@@ -134,7 +135,10 @@ below_pieces p r d k g (JobPiece.fails f up pass _ t e) =
     subst (BelowPaid k r d) (sym e) (paid_then k (owes_below r d) (IsCancelOf r) (TakesBelow r) pass _
     (pass_pays k r d k (reasons.Own f) true pass t) (paid_by_last k (owes_below r d) (IsCancelOf r) (TakesBelow r) (on_jobs (FailedUp k up))
     up refl (covered r (on_jobs (FailedUp k up)) up (λ x a. x))))
-below_pieces p r d k _ (JobPiece.ends_body row v chain t) = (λ x. absurd x, chain_calm p k r d row chain t)
+below_pieces p r d k _ (JobPiece.ends_body row v chain t) = (
+  λ x. absurd x,
+  chain_calm p k (owes_below r d) (IsCancelOf r) (TakesBelow r) (λ q end x. x) (λ q x. x) row chain t,
+)
 below_pieces p r d k _ other = (λ x. absurd x, tt)
 
 -- ---- what takes it away
@@ -147,17 +151,15 @@ pub row_is : (r : ℕ) (o : Option ℕ) → is_row r o ≡ true → o ≡ Some r
 row_is r None h = cc
 row_is r (Some q) h = ap (λ n. Some n) (eqb-true q r h)
 
+three : (a b c : Bool) → (a && (b && c)) ≡ true → (a ≡ true) × (b ≡ true) × (c ≡ true)
+three a b c h = let p = and_parts a (b && c) h in let q = and_parts b c p.1 in (p.0, q.0, q.1)
+
 nothing_below : (tree : Tree) (r d : ℕ) → (parent_of (tree d) ≡ Some r → IsCancellingOrEnded (tree d)) → owes_below r d tree ≡ false
-nothing_below tree r d h = at (cancelled_at (tree r)) (is_row r (parent_of (tree d))) refl
-  where
-    at : (a b : Bool) → is_row r (parent_of (tree d)) ≡ b → (a && (b && cancellable_at (tree d))) ≡ false
-    at true true q = settled (tree d) (h (row_is r (parent_of (tree d)) q))
-    at true false q = refl
-    at false b q = refl
+nothing_below tree r d h = false_from_ne_true _ (λ k. let q = three (cancelled_at (tree r)) (is_row r (parent_of (tree d))) _ k
+    in both_ways (cancellable_at (tree d)) (settled (tree d) (h (row_is r (parent_of (tree d)) q.1))) q.2)
 
 among_below : (tree : Tree) (row r : ℕ) (a : JobAct) → IsCancelBelow tree row a → IsCancelOf r a → IsBelow tree row r
 among_below tree row r (Cancel q reason) h e = subst (IsBelow tree row) e h.1
-among_below tree row r (Attach p q kind tag c) h e = absurd h
 among_below tree row r other h e = absurd h
 
 some_below : (tree : Tree) (row r : ℕ) (acts : List JobAct) → AreCancelsBelow tree row acts → Exists (IsCancelOf r) acts
@@ -207,15 +209,13 @@ no_act r a other b m t = t
 newly_cancelled : (shape : _) (tree : Tree) (who r : ℕ) (act : JobAct) (x y : Option Job) → RowStep shape tree who r act x y
     → cancelled_at x ≡ false → cancelled_at y ≡ true → IsCancelOf r act ⊎ (x ≡ None)
 newly_cancelled shape tree who r _ _ _ (RowStep.is_attached p kind tag cancelled m i) f t = inr refl
-newly_cancelled shape tree who r _ _ _ (RowStep.has_child c kind tag cancelled j none m) f t = absurd (both_ways (is_cancelled j.state) f t)
 newly_cancelled shape tree who r _ _ _ (RowStep.is_started j n) f t = cc
 newly_cancelled shape tree who r _ _ _ (RowStep.body_ends v j m) f t =
     absurd (both_ways (is_cancelled j.state) f (body_cancelled j.state ∙ t))
 newly_cancelled shape tree who r _ _ _ (RowStep.is_cancelled reason j m o) f t = inl refl
 newly_cancelled shape tree who r _ _ _ (RowStep.ends end j m) f t =
     absurd (both_ways (is_cancelled j.state) f (end_cancelled j.state j end m.2 ∙ t))
-newly_cancelled shape tree who r _ _ _ (RowStep.is_told c j m p) f t = absurd (both_ways (is_cancelled j.state) f t)
-newly_cancelled shape tree who r _ _ _ (RowStep.stays act x a b c d e) f t = absurd (both_ways (cancelled_at x) f t)
+newly_cancelled shape tree who r act x y other f t = absurd (both_ways (cancelled_at x) f t)
 
 -- a Job that may have a child which is not cancelled at once is not cancelled
 not_yet : (o : Option Job) (cancelled lazy : Bool) → MayHaveChild cancelled o → is_cancellable (first_state cancelled lazy) ≡ true
@@ -237,12 +237,6 @@ new_cancellable shape tree who r q _ _ _ kind tag cancelled (RowStep.stays act x
     absurd (let z : cancellable_at x ≡ false = ap cancellable_at n in both_ways (cancellable_at x) z c)
 new_cancellable shape tree who r q _ _ _ kind tag cancelled other e c n t = cc
 
-three : (a b c : Bool) → (a && (b && c)) ≡ true → (a ≡ true) × (b ≡ true) × (c ≡ true)
-three true true true h = (refl, refl, refl)
-three true true false h = cc
-three true false c h = cc
-three false b c h = cc
-
 pub row_same : (r : ℕ) (o : Option ℕ) → o ≡ Some r → is_row r o ≡ true
 row_same r o e = subst (λ o. is_row r o ≡ true) (sym e) (Rattle.job_model.proofs.Rows.same r)
 
@@ -251,10 +245,7 @@ stays_cancelling None h n = n refl
 stays_cancelling (Some j) h n = h
 
 last_false : (a b c : Bool) → (a && (b && c)) ≡ false → a ≡ true → b ≡ true → c ≡ false
-last_false true true true h p q = cc
-last_false true true false h p q = refl
-last_false true false c h p q = cc
-last_false false b c h p q = cc
+last_false a b c h p q = false_from_ne_true c (λ k. both_ways (a && (b && c)) h (and_from a _ p (and_from b c q k)))
 
 pub some_parent : (o : Option Job) (r : ℕ) → parent_of o ≡ Some r → o ≡ None → ⊥
 some_parent None r e n = cc
@@ -320,24 +311,19 @@ ended_is None h = absurd h
 ended_is (Some j) h = at j.state h
   where
     at : (s : JobState) → is_ended s ≡ true → is_cancellable s ≡ false
-    at New e = cc
-    at Active e = cc
-    at Completing e = cc
-    at Cancelling e = cc
     at Cancelled e = refl
     at Completed e = refl
+    at other e = cc
 
 either : (o : Option Job) → IsCancellingOrEnded o → (cancelled_at o ≡ true) ⊎ IsEnded o
 either None h = absurd h
 either (Some j) h = at j.state h
   where
     at : (s : JobState) → is_cancellable s ≡ false → (is_cancelled s ≡ true) ⊎ (is_ended s ≡ true)
-    at New e = cc
-    at Active e = cc
-    at Completing e = cc
     at Cancelling e = inl refl
     at Cancelled e = inl refl
     at Completed e = inr refl
+    at other e = cc
 
 -- all below a cancelled Job is Cancelling or ended
 pub below : (p : Program) (books : List (List Item)) (channels : List Entry) (jobs : List JobEntry) → BooksOf p books channels jobs

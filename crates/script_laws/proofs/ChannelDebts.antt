@@ -1,13 +1,13 @@
 -- No debt of the channels is left at the end of a run, if what follows the act that raises it takes it away.
 use Rattle.std.proofs.lemmas.List.{append-nil}
-use Rattle.std.proofs.Common.{◌≡◌, ℕ, Bool, true, false, List, [], ◌∷◌, ◌++◌, length, refl, ap, sym, ◌∙◌, subst, append_assoc, inl, inr, ◌⊎◌, ⊎_elim, Option, Some, None, arith}
-use Rattle.std.specs.Prelude.{nat_lt}
-use Rattle.std.proofs.lemmas.Bool.Decides.{nat_tests}
+use Rattle.std.proofs.Common.{◌≡◌, ℕ, Bool, true, false, List, [], ◌∷◌, ◌++◌, ap, sym, ◌∙◌, subst, append_assoc, inl, inr, ◌⊎◌, ⊎_elim, Option, Some, None, arith}
+use Rattle.std.proofs.lemmas.Bool.{cases_lt}
 use Rattle.channel_model.specs.declared.acts.Act.{Act}
 use Rattle.channel_model.specs.declared.acts.Entry.{Entry}
 use Rattle.channel_model.specs.Channels.{Shape, State, start}
 use Rattle.channel_model.specs.Effects.{after}
 use Rattle.channel_model.specs.Histories.{replay, Legal, LegalFrom}
+use Rattle.channel_model.proofs.Histories.{LegalFrom-parts}
 use Rattle.channel_model.specs.Needs.{Needs}
 use Rattle.job_model.specs.declared.acts.JobEntry.{JobEntry}
 use Rattle.note_book.specs.declared.book.Item.{Item}
@@ -34,22 +34,20 @@ pub record HasTold (p : Program) (channels : List Entry) (k : ℕ) : Type 0 wher
 
 has_told : (p : Program) (books : List (List Item)) (channels : List Entry) (jobs : List JobEntry) → BooksOf p books channels jobs → (k : ℕ)
     → HasTold p channels k ⊎ (part who_did deed k channels ≡ [])
-has_told p books channels jobs of k = by_test (nat_lt k (coroutine_count p)) refl
-  where
-    by_test : (b : Bool) → nat_lt k (coroutine_count p) ≡ b → HasTold p channels k ⊎ (part who_did deed k channels ≡ [])
-    by_test true h =
-        let r = of.runs k (grind (arith, nat_tests)) in
-        inl (record {
-          told = r.told;
-          config = of.ends_at k;
-          reaches = r.reaches;
-          so = true_so _ [] _ r.told r.is_true;
-          acts =
-              sym (told_parts (floor_shape p) k r.told) ∙ ap channel_acts_in r.written ∙ sym (of.channel_parts k)
-              ∙ sym (same_part k channels);
-        })
-    by_test false h = inr (same_part k channels ∙ of.channel_parts k
-        ∙ ap channel_acts_in (no_book books k (let n : length books ≡ coroutine_count p = of.count in grind (arith, nat_tests))))
+has_told p books channels jobs of k = ⊎_elim
+    (λ l.
+    let r = of.runs k l in
+    inl (record {
+      told = r.told;
+      config = of.ends_at k;
+      reaches = r.reaches;
+      so = true_so _ [] _ r.told r.is_true;
+      acts = sym (told_parts (floor_shape p) k r.told) ∙ ap channel_acts_in r.written ∙ sym (of.channel_parts k)
+          ∙ sym (same_part k channels);
+    }))
+    (λ l. let count = of.count in inr (same_part k channels ∙ of.channel_parts k
+    ∙ ap channel_acts_in (no_book books k (omega (arith, count, l)))))
+    (cases_lt k (coroutine_count p))
 
 abbrev pub CallPaidAt : Shape → ℕ → (State → Bool) → (Act → Type 0) → List Entry → List Act → Type 0
 CallPaidAt shape k owes Raises history done = PaidAt step start who_did deed k call_told (CallHolds shape) owes Raises Follows history done
@@ -121,17 +119,11 @@ nobody_owes p books channels jobs of d = subst (λ s. d.owes s ≡ false) (same_
 
 -- ---- what an entry of the history met
 
-legal_parts : (shape : Shape) (s : State) (xs ys : List Entry) → LegalFrom shape s (xs ++ ys) → LegalFrom shape s xs
-    × LegalFrom shape (Rattle.channel_model.specs.Histories.replay_from s xs) ys
-unfolding LegalFrom Rattle.channel_model.specs.Histories.replay_from
-legal_parts shape s [] ys h = (tt, h)
-legal_parts shape s (e ∷ es) ys h = let r = legal_parts shape (after s e.who e.act) es ys h.1 in ((h.0, r.0), r.1)
-
 pub needs_there : (shape : Shape) (channels before : List Entry) (e : Entry) (rest : List Entry) → Legal shape channels → channels ≡ before
     ++ e ∷ rest → Needs shape (replay before) e.who e.act
 unfolding LegalFrom
-needs_there shape channels before e rest l q = (legal_parts shape start before (e ∷ rest) (subst (Legal shape) q l)).1.0
+needs_there shape channels before e rest l q = (LegalFrom-parts shape start before (e ∷ rest) (subst (Legal shape) q l)).1.0
 
 pub legal_before : (shape : Shape) (channels before : List Entry) (e : Entry) (rest : List Entry) → Legal shape channels → channels ≡ before
     ++ e ∷ rest → Legal shape before
-legal_before shape channels before e rest l q = (legal_parts shape start before (e ∷ rest) (subst (Legal shape) q l)).0
+legal_before shape channels before e rest l q = (LegalFrom-parts shape start before (e ∷ rest) (subst (Legal shape) q l)).0

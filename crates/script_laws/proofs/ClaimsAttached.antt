@@ -3,15 +3,16 @@
 use Rattle.std.specs.Prelude.{◌≡◌, ℕ, zero, suc, ◌+◌, ◌<◌, ◌≤◌, ◌==◌, ◌⊎◌, Bool, true, false, ◌||◌, List, [], ◌∷◌, Option, Some, None, is_some, if◌then◌else◌, refl}
 use Rattle.std.specs.List.{list_any}
 use Rattle.std.proofs.Common.{sym, ap, ◌∙◌, subst, inl, inr, ⊎_elim, arith}
-use Rattle.std.proofs.lemmas.Bool.{eqb-true, or_from, or_cases, or_parts}
+use Rattle.std.proofs.lemmas.Bool.{eqb-true, cases_Bool, or_from, or_cases, or_parts}
 use Rattle.std.proofs.lemmas.List.Folds.{list_any-append}
 use Rattle.channel_model.specs.Floors.{Floor as ChannelFloor}
 use Rattle.job_model.specs.declared.acts.JobAct.{JobAct}
-use Rattle.job_model.specs.declared.acts.JobAct.TheVariants.{Attach, Start}
+use Rattle.job_model.specs.declared.acts.JobAct.TheVariants.{Attach}
 use Rattle.job_model.specs.declared.acts.JobNote.TheVariants as known
 use Rattle.job_model.specs.Acts.{attaches}
 use Rattle.job_model.specs.Trees.{is_among, start}
 use Rattle.job_model.specs.Histories.{Legal}
+use Rattle.job_model.proofs.Spans.{or_nothing}
 use Rattle.job_model.specs.Floors.{Floor, is_claimed_by}
 use Rattle.note_book.specs.declared.book.Item.{Item}
 use Rattle.note_book.specs.declared.book.Item.TheVariants as item
@@ -33,12 +34,7 @@ use Rattle.script_laws.proofs.RowsEntered.{scopes_at, enters_row, attach_is, row
 -- ---- rows that acts attach
 
 same_row : (r : ℕ) (act : JobAct) → is_among r (row_in act) ≡ attaches r act
-same_row r (Attach p q kind tag cancelled) = or_nothing (r == q)
-  where
-    or_nothing : (b : Bool) → (b || false) ≡ b
-    or_nothing true = refl
-    or_nothing false = refl
-same_row r (Start q) = refl
+same_row r (Attach p q kind tag cancelled) = sym (or_nothing (r == q))
 same_row r other = refl
 
 pub is_among-rows_in : (r : ℕ) (acts : List JobAct) → is_among r (rows_in acts) ≡ list_any (attaches r) acts
@@ -127,12 +123,10 @@ claims_few p c j g ok legal on =
 some_or_none : (from n : ℕ) (test : ℕ → Bool) → (count_from from n test ≡ 0) ⊎ ((r : ℕ) × (test r ≡ true))
 unfolding count_from
 some_or_none from zero test = inl refl
-some_or_none from (suc n) test = by_test (test from) refl (some_or_none (from + 1) n test)
-  where
-    by_test : (b : Bool) → test from ≡ b → (count_from (from + 1) n test ≡ 0) ⊎ ((r : ℕ) × (test r ≡ true))
-        → (one b + count_from (from + 1) n test ≡ 0) ⊎ ((r : ℕ) × (test r ≡ true))
-    by_test true e rest = inr (from, e)
-    by_test false e rest = ⊎_elim (λ f. inl (omega (arith, f))) (λ f. inr f) rest
+some_or_none from (suc n) test = ⊎_elim
+    (λ e. inr (from, e))
+    (λ e. ⊎_elim (λ f. let none = ap one e in inl (omega (arith, none, f))) (λ f. inr f) (some_or_none (from + 1) n test))
+    (cases_Bool (test from))
 
 claimed_is : (t : ℕ) (o : Option ℕ) → is_claimed_by t o ≡ true → o ≡ Some t
 claimed_is t None e = cc
@@ -173,10 +167,7 @@ pub all_refusals : (base : ℕ) (items : List Item) → list_any (is_spent base)
 all_refusals base [] s n u e = refl
 all_refusals base (item.Channel x ∷ items) s n u e = let two = or_parts (is_channel_refusal base x) (list_any (is_spent base) items) s
     in or_from (is_channel_refusal base x) (list_any (is_refusal base) items) two.0 (all_refusals base items two.1 n u e)
-all_refusals base (item.Job (known.Made act) ∷ items) s n u e = all_refusals base items s n u e
-all_refusals base (item.Job (known.Saw row) ∷ items) s n u e = all_refusals base items s n u e
-all_refusals base (item.Job (known.SawEnd row end) ∷ items) s n u e = all_refusals base items s n u e
-all_refusals base (item.Job (known.Fail v) ∷ items) s n u e = all_refusals base items s n u e
 all_refusals base (item.Job known.NoRow ∷ items) s n u e = cc
 all_refusals base (item.Job known.Used ∷ items) s n u e = cc
 all_refusals base (item.Job known.ParentEnded ∷ items) s n u e = cc
+all_refusals base (other ∷ items) s n u e = all_refusals base items s n u e

@@ -1,8 +1,9 @@
 -- At the end of a run no receiver stands on a closed channel, and no offer on a voided one.
 use Rattle.script_grammar.proofs.Truths.{both_true}
-use Rattle.std.proofs.Common.{◌≡◌, ℕ, ◌<◌, ◌≤◌, arith, Bool, true, false, not, ◌&&◌, List, [], ◌∷◌, ◌++◌, filter, refl, ap, sym, ◌∙◌, subst, Option, Some, None, if◌then◌else◌}
-use Rattle.std.specs.Prelude.{◌==◌, ◌||◌, ◌+◌, is_some, nat_le, cond}
-use Rattle.std.proofs.lemmas.Bool.{eqb-true, or_right, both_ways, and_from, and_right}
+use Rattle.std.proofs.Common.{◌≡◌, ℕ, ◌<◌, ◌≤◌, arith, Bool, true, false, not, ◌&&◌, List, [], ◌∷◌, ◌++◌, filter, refl, ap, sym, ◌∙◌, subst, ⊎_elim, Option, Some, None}
+use Rattle.std.specs.Prelude.{◌==◌, ◌||◌, ◌+◌, is_some}
+use Rattle.std.specs.List.{AllByRecursion}
+use Rattle.std.proofs.lemmas.Bool.{eqb-true, or_left, or_right, or_cases, both_ways, and_from, and_right, cond_both}
 use Rattle.co_base.specs.declared.names.WaitId.{WaitId}
 use Rattle.channel_model.specs.declared.acts.Act.{Act}
 use Rattle.channel_model.specs.declared.acts.Act.TheVariants.{Hand, Put, Offer, Await, Take, Admit, Drop, Spurn, Close, Void, Drain, WakeClosed, Withdraw, Settle}
@@ -34,93 +35,66 @@ use Rattle.channel_model.proofs.Stood.{spurns_more}
 -- ---- what most acts do to a channel: who stands there may go
 
 -- all stand at places before this one
-unfoldable pub AllBefore : ℕ → List Standing → Type 0
-AllBefore n [] = Unit {0}
-AllBefore n (o ∷ os) = (o.place < n) × AllBefore n os
+abbrev pub AllBefore : ℕ → List Standing → Type 0
+AllBefore n os = AllByRecursion (λ (o : Standing). o.place < n) os
 
-as_many_more : (n a b : ℕ) → a ≤ b → n + a ≤ n + b
-as_many_more n a b h = omega (arith, h)
+-- one of two tests passes, if one of two that imply them does
+pub or_more : (a b c d : Bool) → (a || b) ≡ true → (a ≡ true → c ≡ true) → (b ≡ true → d ≡ true) → (c || d) ≡ true
+or_more a b c d e f g = ⊎_elim (λ h. or_left c d (f h)) (λ h. or_right c d (g h)) (or_cases a b e)
 
-some_more : (n a b : ℕ) → a ≤ b → a ≤ n + b
-some_more n a b h = omega (arith, h)
+-- what holds of all offers holds of those that pass a test
+pub all_filtered : (P : Standing → Type 0) (test : Standing → Bool) (os : List Standing) → AllByRecursion P os
+    → AllByRecursion P (filter test os)
+all_filtered P test [] h = tt
+all_filtered P test (o ∷ os) h = cond_both (test o) (o ∷ filter test os) (filter test os) (AllByRecursion P)
+    (λ e. (h.0, all_filtered P test os h.1)) (λ e. all_filtered P test os h.1)
+
+-- and behind an admission, if it holds of an offer whose holder may go
+pub all_admitted : (P : Standing → Type 0) → ((o : Standing) → P o → P (record o { holder = None })) → (p : ℕ) (os : List Standing)
+    → AllByRecursion P os → AllByRecursion P (admitted p os)
+all_admitted P f p [] h = tt
+all_admitted P f p (o ∷ os) h = cond_both (o.place == p) (record o { holder = None } ∷ os) (o ∷ admitted p os) (AllByRecursion P)
+    (λ e. (f o h.0, h.1)) (λ e. (h.0, all_admitted P f p os h.1))
 
 pub filtered_up_to : (test : Standing → Bool) (q : ℕ) (os : List Standing) → offers_up_to q (filter test os) ≤ offers_up_to q os
 filtered_up_to test q [] = omega arith
-filtered_up_to test q (o ∷ os) = at (filtered_up_to test q os) (test o)
-  where
-    at : offers_up_to q (filter test os) ≤ offers_up_to q os → (b : Bool)
-        → offers_up_to q (if b then o ∷ filter test os else filter test os) ≤ offers_up_to q (o ∷ os)
-    at h true = as_many_more (cond (nat_le o.place q) 1 0) _ _ h
-    at h false = some_more (cond (nat_le o.place q) 1 0) _ _ h
-
-filtered_places : (test : Standing → Bool) (n : ℕ) (os : List Standing) → AllBefore n os → AllBefore n (filter test os)
-unfolding AllBefore
-filtered_places test n [] h = tt
-filtered_places test n (o ∷ os) h = at (filtered_places test n os h.1) (test o)
-  where
-    at : AllBefore n (filter test os) → (b : Bool) → AllBefore n (if b then o ∷ filter test os else filter test os)
-    at k true = (h.0, k)
-    at k false = k
+filtered_up_to test q (o ∷ os) =
+    let h = filtered_up_to test q os in
+    cond_both (test o) (o ∷ filter test os) (filter test os) (λ l. offers_up_to q l ≤ offers_up_to q (o ∷ os)) (λ e. omega arith)
+    (λ e. omega arith)
 
 admitted_up_to : (p q : ℕ) (os : List Standing) → offers_up_to q (admitted p os) ≤ offers_up_to q os
 admitted_up_to p q [] = omega arith
-admitted_up_to p q (o ∷ os) = at (admitted_up_to p q os) (o.place == p)
-  where
-    at : offers_up_to q (admitted p os) ≤ offers_up_to q os → (b : Bool)
-        → offers_up_to q (if b then record o { holder = None } ∷ os else o ∷ admitted p os) ≤ offers_up_to q (o ∷ os)
-    at h true = omega arith
-    at h false = as_many_more (cond (nat_le o.place q) 1 0) _ _ h
-
-admitted_places : (p n : ℕ) (os : List Standing) → AllBefore n os → AllBefore n (admitted p os)
-unfolding AllBefore
-admitted_places p n [] h = tt
-admitted_places p n (o ∷ os) h = at (admitted_places p n os h.1) (o.place == p)
-  where
-    at : AllBefore n (admitted p os) → (b : Bool) → AllBefore n (if b then record o { holder = None } ∷ os else o ∷ admitted p os)
-    at k true = h
-    at k false = (h.0, k)
+admitted_up_to p q (o ∷ os) =
+    let h = admitted_up_to p q os in
+    cond_both (o.place == p) (record o { holder = None } ∷ os) (o ∷ admitted p os) (λ l. offers_up_to q l ≤ offers_up_to q (o ∷ os))
+    (λ e. omega arith) (λ e. omega arith)
 
 -- ---- elements that are too many for a kind that does not keep its latest
 
 -- with more offers before the list, no fewer are too many
 pub more_owes : (kind : Kind) (q m n : ℕ) (os : List Standing) → m ≤ n → owes_spurn_at kind q m os ≡ true → owes_spurn_at kind q n os ≡ true
 more_owes kind q m n [] h e = cc
-more_owes kind q m n (o ∷ os) h e = at (o.place == q) (spurns kind m) refl (λ r. more_owes kind q (m + 1) (n + 1) os (omega (arith, h)) r) e
-  where
-    at : (b s : Bool) → spurns kind m ≡ s → (owes_spurn_at kind q (m + 1) os ≡ true → owes_spurn_at kind q (n + 1) os ≡ true)
-        → ((b && s) || owes_spurn_at kind q (m + 1) os) ≡ true → ((b && spurns kind n) || owes_spurn_at kind q (n + 1) os) ≡ true
-    at true true t later e = ap (λ (x : Bool). x || owes_spurn_at kind q (n + 1) os) (spurns_more kind m n h t)
-    at true false t later e = or_right (spurns kind n) _ (later e)
-    at false s t later e = later e
+more_owes kind q m n (o ∷ os) h e = or_more _ _ _ _ e
+    (λ k. let both = both_true _ _ k in and_from _ _ both.0 (spurns_more kind m n h both.1))
+    (more_owes kind q (m + 1) (n + 1) os (omega (arith, h)))
 
 filtered_owes : (test : Standing → Bool) (kind : Kind) (q m n : ℕ) (os : List Standing) → m ≤ n
     → owes_spurn_at kind q m (filter test os) ≡ true → owes_spurn_at kind q n os ≡ true
 filtered_owes test kind q m n [] h e = cc
 filtered_owes test kind q m n (o ∷ os) h e =
-    by_test (test o) (λ r. filtered_owes test kind q (m + 1) (n + 1) os (omega (arith, h)) r)
-    (λ r. filtered_owes test kind q m (n + 1) os (omega (arith, h)) r) e
-  where
-    at : (b s : Bool) → spurns kind m ≡ s → (owes_spurn_at kind q (m + 1) (filter test os) ≡ true → owes_spurn_at kind q (n + 1) os ≡ true)
-        → ((b && s) || owes_spurn_at kind q (m + 1) (filter test os)) ≡ true
-        → ((b && spurns kind n) || owes_spurn_at kind q (n + 1) os) ≡ true
-    at true true t later e = ap (λ (x : Bool). x || owes_spurn_at kind q (n + 1) os) (spurns_more kind m n h t)
-    at true false t later e = or_right (spurns kind n) _ (later e)
-    at false s t later e = later e
-
-    by_test : (b : Bool) → (owes_spurn_at kind q (m + 1) (filter test os) ≡ true → owes_spurn_at kind q (n + 1) os ≡ true)
-        → (owes_spurn_at kind q m (filter test os) ≡ true → owes_spurn_at kind q (n + 1) os ≡ true)
-        → owes_spurn_at kind q m (if b then o ∷ filter test os else filter test os) ≡ true → owes_spurn_at kind q n (o ∷ os) ≡ true
-    by_test true later without e = at (o.place == q) (spurns kind m) refl later e
-    by_test false later without e = or_right ((o.place == q) && spurns kind n) _ (without e)
+    cond_both (test o) (o ∷ filter test os) (filter test os)
+    (λ l. owes_spurn_at kind q m l ≡ true → owes_spurn_at kind q n (o ∷ os) ≡ true)
+    (λ t u. or_more _ _ _ _ u (λ k. let both = both_true _ _ k in and_from _ _ both.0 (spurns_more kind m n h both.1))
+    (filtered_owes test kind q (m + 1) (n + 1) os (omega (arith, h))))
+    (λ t u. or_right _ _ (filtered_owes test kind q m (n + 1) os (omega (arith, h)) u)) e
 
 admitted_owes : (p : ℕ) (kind : Kind) (q n : ℕ) (os : List Standing) → owes_spurn_at kind q n (admitted p os) ≡ owes_spurn_at kind q n os
 admitted_owes p kind q n [] = refl
-admitted_owes p kind q n (o ∷ os) = by_test (o.place == p) (admitted_owes p kind q (n + 1) os)
-  where
-    by_test : (b : Bool) → owes_spurn_at kind q (n + 1) (admitted p os) ≡ owes_spurn_at kind q (n + 1) os
-        → owes_spurn_at kind q n (if b then record o { holder = None } ∷ os else o ∷ admitted p os) ≡ owes_spurn_at kind q n (o ∷ os)
-    by_test true h = refl
-    by_test false h = ap (λ (x : Bool). ((o.place == q) && spurns kind n) || x) h
+admitted_owes p kind q n (o ∷ os) =
+    cond_both (o.place == p) (record o { holder = None } ∷ os) (o ∷ admitted p os)
+    (λ l. owes_spurn_at kind q n l ≡ owes_spurn_at kind q n (o ∷ os)) (λ e. refl)
+    (λ e. ap (λ (x : Bool). ((o.place == q) && spurns kind n) || x) (admitted_owes p kind q (n + 1) os))
 
 rest_owes : (qs : List Standing) (o : Standing) (os : List Standing) (kind : Kind) (q m n : ℕ) → qs ≡ o ∷ os → m ≤ n
     → owes_spurn_at kind q m os ≡ true → owes_spurn_at kind q n qs ≡ true
@@ -174,11 +148,8 @@ fewer test [] h = h
 fewer test (x ∷ xs) h = refl
 
 less_put : (s : State) (c : ℕ) (ch : Channel) → Less (s.channels c) ch → AllLess s (record s { channels = put_channel c ch s.channels })
-less_put s c ch h = λ d. at d (c == d) refl
-  where
-    at : (d : ℕ) (b : Bool) → (c == d) ≡ b → Less (s.channels d) (if b then ch else s.channels d)
-    at d true e = subst (λ n. Less (s.channels n) ch) (eqb-true c d e) h
-    at d false e = less_same (s.channels d)
+less_put s c ch h = λ d. cond_both (c == d) ch (s.channels d) (Less (s.channels d))
+    (λ e. subst (λ n. Less (s.channels n) ch) (eqb-true c d e) h) (λ e. less_same (s.channels d))
 
 less_resolve : (w : WaitId) (how : Resolution) (s : State) → AllLess s (resolve w how s)
 less_resolve w how s = λ c. record {
@@ -192,7 +163,7 @@ less_resolve w how s = λ c. record {
   up_to =
       λ q. filtered_up_to (λ (o : Standing). not (is_held_by w o.holder)) q (s.channels c).queue;
   places =
-      λ n h. filtered_places (λ (o : Standing). not (is_held_by w o.holder)) n (s.channels c).queue h;
+      λ n h. all_filtered (λ (o : Standing). o.place < n) (λ (o : Standing). not (is_held_by w o.holder)) (s.channels c).queue h;
   spurn =
       λ kind q m n h e. filtered_owes (λ (o : Standing). not (is_held_by w o.holder)) kind q m n (s.channels c).queue h e;
 }
@@ -216,16 +187,11 @@ some_stands : (q : List Standing) (o : Standing) (os : List Standing) → q ≡ 
 some_stands q o os e = ap stands_any e
 
 rest_up_to : (qs : List Standing) (o : Standing) (os : List Standing) (q : ℕ) → qs ≡ o ∷ os → offers_up_to q os ≤ offers_up_to q qs
-rest_up_to qs o os q e = subst (λ l. offers_up_to q os ≤ offers_up_to q l) (sym e)
-    (some_more (cond (nat_le o.place q) 1 0) (offers_up_to q os) (offers_up_to q os) (omega arith))
-
-rest_places : (qs : List Standing) (o : Standing) (os : List Standing) (n : ℕ) → qs ≡ o ∷ os → AllBefore n qs → AllBefore n os
-unfolding AllBefore
-rest_places qs o os n e h = let k : AllBefore n (o ∷ os) = subst (AllBefore n) e h in k.1
+rest_up_to qs o os q e = subst (λ l. offers_up_to q os ≤ offers_up_to q l) (sym e) (omega arith)
 
 less_rest : (c : ℕ) (o : Standing) (os : List Standing) (s : State) → (s.channels c).queue ≡ o ∷ os → AllLess s (with_queue c os s)
 less_rest c o os s e = less_queue c os s (λ h. some_stands (s.channels c).queue o os e) (λ q. rest_up_to (s.channels c).queue o os q e)
-    (λ n h. rest_places (s.channels c).queue o os n e h) (λ kind q m n h t. rest_owes (s.channels c).queue o os kind q m n e h t)
+    (λ n h. (subst (AllBefore n) e h).1) (λ kind q m n h t. rest_owes (s.channels c).queue o os kind q m n e h t)
 
 less_offer : (c : ℕ) (q : List Standing) (how : ℕ → Resolution) (s : State) → (s.channels c).queue ≡ q → AllLess s (resolve_offer c q how s)
 less_offer c [] how s e = λ d. less_same (s.channels d)
@@ -253,19 +219,33 @@ less_after s who (Hand c p v) h = less_first (s.channels c).receivers _ s
 less_after s who (Take c p v) h = less_offer c (s.channels c).queue _ s refl
 less_after s who (Admit c p) h = less_then s (with_queue c (admitted p (s.channels c).queue) s) (after s who (Admit c p))
     (less_queue c (admitted p (s.channels c).queue) s (λ h. still_stand p (s.channels c).queue h)
-    (λ q. admitted_up_to p q (s.channels c).queue) (λ n h. admitted_places p n (s.channels c).queue h)
+    (λ q. admitted_up_to p q (s.channels c).queue) (λ n h. all_admitted (λ (o : Standing). o.place < n) (λ o k. k) p (s.channels c).queue h)
     (λ kind q m n h e. more_owes kind q m n (s.channels c).queue h (sym (admitted_owes p kind q m (s.channels c).queue) ∙ e)))
     (less_holder _ _ (with_queue c (admitted p (s.channels c).queue) s))
 less_after s who (Drop c p v) h = less_removed c (s.channels c).queue s refl
 less_after s who (Spurn c p v) h = less_queue c (spurned p (s.channels c).queue) s (λ h. fewer (is_elsewhere p) (s.channels c).queue h)
-    (λ q. filtered_up_to (is_elsewhere p) q (s.channels c).queue) (λ n h. filtered_places (is_elsewhere p) n (s.channels c).queue h)
+    (λ q. filtered_up_to (is_elsewhere p) q (s.channels c).queue)
+    (λ n h. all_filtered (λ (o : Standing). o.place < n) (is_elsewhere p) (s.channels c).queue h)
     (λ kind q m n h e. filtered_owes (is_elsewhere p) kind q m n (s.channels c).queue h e)
 less_after s who (Drain c p v) h = less_offer c (s.channels c).queue _ s refl
 less_after s who (WakeClosed c p) h = less_first (s.channels c).receivers _ s
 less_after s who (Withdraw w why) h = less_resolve w (resolved.Withdrawn why) s
 less_after s who (Settle w outcome) h = λ c. less_same (s.channels c)
-less_after s who (Put c q v) h = cc
 less_after s who other h = cc
+
+-- ---- what a change of one channel raises
+
+-- it is owed by this channel, which did not owe it
+pub by_put : (A : Type 0) (owes : Channel → Bool) (s : State) (d c : ℕ) (ch : Channel) → owes (s.channels c) ≡ false
+    → owes (put_channel d ch s.channels c) ≡ true → (d ≡ c → owes (s.channels d) ≡ false → owes ch ≡ true → A) → A
+by_put A owes s d c ch f t k = cond_both (d == c) ch (s.channels c) (λ x. owes x ≡ true → A)
+    (λ e. let same = eqb-true d c e in k same (subst (λ n. owes (s.channels n) ≡ false) (sym same) f))
+    (λ e u. absurd (both_ways (owes (s.channels c)) f u)) t
+
+-- a receiver that is placed leaves the queue as it is
+pub receiver_queue : (b : Bool) (r : Receiver) (ch : Channel) → (place_receiver b r ch).queue ≡ ch.queue
+receiver_queue true r ch = refl
+receiver_queue false r ch = refl
 
 -- ---- receivers of closed channels
 
@@ -285,54 +265,24 @@ by_less a b h f t =
     both_ways (keeps_receivers a) f (and_from (is_some a.closed) (stands_any a.receivers) (sym (ap is_some h.closed)
     ∙ q.0) (h.receivers q.1))
 
+same_receivers : (b : Bool) (o : Standing) (ch : Channel) → keeps_receivers (place_offer b o ch) ≡ keeps_receivers ch
+same_receivers true o ch = refl
+same_receivers false o ch = refl
+
+none_closed : (b : Bool) (r : Receiver) (ch : Channel) → ch.closed ≡ None → keeps_receivers (place_receiver b r ch) ≡ false
+none_closed true r ch e = ap (λ (x : Option ℕ). is_some x && stands_any (ch.receivers ++ r ∷ [])) e
+none_closed false r ch e = ap (λ (x : Option ℕ). is_some x && stands_any ch.receivers) e
+
 close_raised : (shape : Shape) (s : State) (who c : ℕ) (act : Act) → Needs shape s who act → owes_close c s ≡ false
     → owes_close c (after s who act) ≡ true → IsCloseOf c act
-close_raised shape s who c (Put d q v) n f t = absurd (at (d == c) refl t)
-  where
-    at : (b : Bool) → (d == c) ≡ b
-        → keeps_receivers (if b then place_offer true (record { place = q; value = v; holder = None }) (s.channels d) else s.channels c) ≡
-        true → ⊥
-    at true e t = both_ways (owes_close c s) f (subst (λ n. owes_close n s ≡ true) (eqb-true d c e) t)
-    at false e t = both_ways (owes_close c s) f t
-close_raised shape s who c (Offer d q v w k) n f t = absurd (at (d == c) refl (is_open (s.waits w)) t)
-  where
-    at : (b : Bool) → (d == c) ≡ b → (o : Bool) → keeps_receivers
-        (if b then place_offer o (record { place = q; value = v; holder = Some (record { wait = w; clause = k }) }) (s.channels d) else
-        s.channels c) ≡ true → ⊥
-    at true e true t = both_ways (owes_close c s) f (subst (λ n. owes_close n s ≡ true) (eqb-true d c e) t)
-    at true e false t = both_ways (owes_close c s) f (subst (λ n. owes_close n s ≡ true) (eqb-true d c e) t)
-    at false e o t = both_ways (owes_close c s) f t
-close_raised shape s who c (Await d q w k) n f t = absurd (at (d == c) refl (is_open (s.waits w)) t)
-  where
-    not_open : (x : Option ℕ) (y : Bool) → x ≡ None → (is_some x && y) ≡ true → ⊥
-    not_open None y e h = cc
-    not_open (Some v) y e h = cc
-
-    at : (b : Bool) → (d == c) ≡ b → (o : Bool) → keeps_receivers
-        (if b then place_receiver o (record { place = q; party = record { wait = w; clause = k } }) (s.channels d) else s.channels c) ≡ true
-        → ⊥
-    at true e true t = not_open (s.channels d).closed _ n.1.open_now t
-    at true e false t = not_open (s.channels d).closed _ n.1.open_now t
-    at false e o t = both_ways (owes_close c s) f t
-close_raised shape s who c (Close d v) n f t = at (d == c) refl t
-  where
-    at : (b : Bool) → (d == c) ≡ b → keeps_receivers (if b then record (s.channels d) { closed = Some v } else s.channels c) ≡ true → d ≡ c
-    at true e t = eqb-true d c e
-    at false e t = absurd (both_ways (owes_close c s) f t)
-close_raised shape s who c (Void d) n f t = absurd (at (d == c) refl t)
-  where
-    at : (b : Bool) → (d == c) ≡ b → keeps_receivers (if b then record (s.channels d) { voided = true } else s.channels c) ≡ true → ⊥
-    at true e t = both_ways (owes_close c s) f (subst (λ n. owes_close n s ≡ true) (eqb-true d c e) t)
-    at false e t = both_ways (owes_close c s) f t
-close_raised shape s who c (Hand d p v) n f t = absurd (by_less (s.channels c) _ (less_after s who (Hand d p v) refl c) f t)
-close_raised shape s who c (Take d p v) n f t = absurd (by_less (s.channels c) _ (less_after s who (Take d p v) refl c) f t)
-close_raised shape s who c (Admit d p) n f t = absurd (by_less (s.channels c) _ (less_after s who (Admit d p) refl c) f t)
-close_raised shape s who c (Drop d p v) n f t = absurd (by_less (s.channels c) _ (less_after s who (Drop d p v) refl c) f t)
-close_raised shape s who c (Spurn d p v) n f t = absurd (by_less (s.channels c) _ (less_after s who (Spurn d p v) refl c) f t)
-close_raised shape s who c (Drain d p v) n f t = absurd (by_less (s.channels c) _ (less_after s who (Drain d p v) refl c) f t)
-close_raised shape s who c (WakeClosed d p) n f t = absurd (by_less (s.channels c) _ (less_after s who (WakeClosed d p) refl c) f t)
-close_raised shape s who c (Withdraw w why) n f t = absurd (by_less (s.channels c) _ (less_after s who (Withdraw w why) refl c) f t)
-close_raised shape s who c (Settle w outcome) n f t = absurd (both_ways (owes_close c s) f t)
+close_raised shape s who c (Put d q v) n f t = absurd (by_put ⊥ keeps_receivers s d c _ f t (λ e. both_ways _))
+close_raised shape s who c (Offer d q v w k) n f t = absurd (by_put ⊥ keeps_receivers s d c _ f t
+    (λ e g h. both_ways _ g (sym (same_receivers (is_open (s.waits w)) _ (s.channels d)) ∙ h)))
+close_raised shape s who c (Await d q w k) n f t = absurd (by_put ⊥ keeps_receivers s d c _ f t
+    (λ e g. both_ways _ (none_closed (is_open (s.waits w)) _ (s.channels d) n.1.open_now)))
+close_raised shape s who c (Close d v) n f t = by_put (d ≡ c) keeps_receivers s d c _ f t (λ e g h. e)
+close_raised shape s who c (Void d) n f t = absurd (by_put ⊥ keeps_receivers s d c _ f t (λ e. both_ways _))
+close_raised shape s who c other n f t = absurd (by_less (s.channels c) _ (less_after s who other refl c) f t)
 
 none_receives : (c : ℕ) (s : State) → (s.channels c).receivers ≡ [] → owes_close c s ≡ false
 none_receives c s e = and_right (is_some (s.channels c).closed) (stands_any (s.channels c).receivers) (ap stands_any e)
@@ -395,58 +345,27 @@ queue_by_less a b h f t =
     both_ways (keeps_offers a) f (and_from a.voided (stands_any a.queue) (sym h.voided ∙ q.0) (h.queue q.1))
 
 open_not_voided : (ch : Channel) (y : Bool) → IsFit ch → ch.closed ≡ None → (ch.voided && y) ≡ true → ⊥
-open_not_voided ch y f e h = at ch.closed e (f (both_true ch.voided y h).0)
-  where
-    at : (o : Option ℕ) → o ≡ None → is_some o ≡ true → ⊥
-    at None e h = cc
-    at (Some v) e h = cc
+open_not_voided ch y f e h = both_ways (is_some ch.closed) (ap is_some e) (f (both_true ch.voided y h).0)
+
+none_offered : (b : Bool) (o : Standing) (ch : Channel) → IsFit ch → ch.closed ≡ None → keeps_offers (place_offer b o ch) ≡ true → ⊥
+none_offered true o ch = open_not_voided ch _
+none_offered false o ch = open_not_voided ch _
+
+none_awaited : (b : Bool) (r : Receiver) (ch : Channel) → IsFit ch → ch.closed ≡ None → keeps_offers (place_receiver b r ch) ≡ true → ⊥
+none_awaited true r ch = open_not_voided ch _
+none_awaited false r ch = open_not_voided ch _
 
 void_raised : (shape : Shape) (s : State) (who c : ℕ) (act : Act) → ClosedIfVoided s → Needs shape s who act → owes_void c s ≡ false
     → owes_void c (after s who act) ≡ true → IsVoidOf c act
-void_raised shape s who c (Put d q v) fit n f t = absurd (at (d == c) t)
-  where
-    at : (b : Bool)
-        → keeps_offers (if b then place_offer true (record { place = q; value = v; holder = None }) (s.channels d) else s.channels c) ≡ true
-        → ⊥
-    at true t = open_not_voided (s.channels d) _ (fit d) n.1.open_now t
-    at false t = both_ways (owes_void c s) f t
-void_raised shape s who c (Offer d q v w k) fit n f t = absurd (at (d == c) (is_open (s.waits w)) t)
-  where
-    at : (b o : Bool)
-        → keeps_offers (if b then place_offer o (record { place = q; value = v; holder = Some (record { wait = w; clause = k }) })
-        (s.channels d) else s.channels c) ≡ true → ⊥
-    at true true t = open_not_voided (s.channels d) _ (fit d) n.1.open_now t
-    at true false t = open_not_voided (s.channels d) _ (fit d) n.1.open_now t
-    at false o t = both_ways (owes_void c s) f t
-void_raised shape s who c (Await d q w k) fit n f t = absurd (at (d == c) (is_open (s.waits w)) t)
-  where
-    at : (b o : Bool)
-        → keeps_offers (if b then place_receiver o (record { place = q; party = record { wait = w; clause = k } }) (s.channels d) else
-        s.channels c) ≡ true → ⊥
-    at true true t = open_not_voided (s.channels d) _ (fit d) n.1.open_now t
-    at true false t = open_not_voided (s.channels d) _ (fit d) n.1.open_now t
-    at false o t = both_ways (owes_void c s) f t
-void_raised shape s who c (Close d v) fit n f t = absurd (at (d == c) refl t)
-  where
-    at : (b : Bool) → (d == c) ≡ b → keeps_offers (if b then record (s.channels d) { closed = Some v } else s.channels c) ≡ true → ⊥
-    at true e t = both_ways (owes_void c s) f (subst (λ n. owes_void n s ≡ true) (eqb-true d c e) t)
-    at false e t = both_ways (owes_void c s) f t
-void_raised shape s who c (Void d) fit n f t = at (d == c) refl t
-  where
-    at : (b : Bool) → (d == c) ≡ b → keeps_offers (if b then record (s.channels d) { voided = true } else s.channels c) ≡ true → d ≡ c
-    at true e t = eqb-true d c e
-    at false e t = absurd (both_ways (owes_void c s) f t)
-void_raised shape s who c (Hand d p v) fit n f t = absurd (queue_by_less (s.channels c) _ (less_after s who (Hand d p v) refl c) f t)
-void_raised shape s who c (Take d p v) fit n f t = absurd (queue_by_less (s.channels c) _ (less_after s who (Take d p v) refl c) f t)
-void_raised shape s who c (Admit d p) fit n f t = absurd (queue_by_less (s.channels c) _ (less_after s who (Admit d p) refl c) f t)
-void_raised shape s who c (Drop d p v) fit n f t = absurd (queue_by_less (s.channels c) _ (less_after s who (Drop d p v) refl c) f t)
-void_raised shape s who c (Spurn d p v) fit n f t = absurd (queue_by_less (s.channels c) _ (less_after s who (Spurn d p v) refl c) f t)
-void_raised shape s who c (Drain d p v) fit n f t = absurd (queue_by_less (s.channels c) _ (less_after s who (Drain d p v) refl c) f t)
-void_raised shape s who c (WakeClosed d p) fit n f t = absurd
-    (queue_by_less (s.channels c) _ (less_after s who (WakeClosed d p) refl c) f t)
-void_raised shape s who c (Withdraw w why) fit n f t = absurd
-    (queue_by_less (s.channels c) _ (less_after s who (Withdraw w why) refl c) f t)
-void_raised shape s who c (Settle w outcome) fit n f t = absurd (both_ways (owes_void c s) f t)
+void_raised shape s who c (Put d q v) fit n f t = absurd (by_put ⊥ keeps_offers s d c _ f t
+    (λ e g. none_offered true _ (s.channels d) (fit d) n.1.open_now))
+void_raised shape s who c (Offer d q v w k) fit n f t = absurd (by_put ⊥ keeps_offers s d c _ f t
+    (λ e g. none_offered (is_open (s.waits w)) _ (s.channels d) (fit d) n.1.open_now))
+void_raised shape s who c (Await d q w k) fit n f t = absurd (by_put ⊥ keeps_offers s d c _ f t
+    (λ e g. none_awaited (is_open (s.waits w)) _ (s.channels d) (fit d) n.1.open_now))
+void_raised shape s who c (Close d v) fit n f t = absurd (by_put ⊥ keeps_offers s d c _ f t (λ e. both_ways _))
+void_raised shape s who c (Void d) fit n f t = by_put (d ≡ c) keeps_offers s d c _ f t (λ e g h. e)
+void_raised shape s who c other fit n f t = absurd (queue_by_less (s.channels c) _ (less_after s who other refl c) f t)
 
 none_queued : (c : ℕ) (s : State) → (s.channels c).queue ≡ [] → owes_void c s ≡ false
 none_queued c s e = and_right (s.channels c).voided (stands_any (s.channels c).queue) (ap stands_any e)

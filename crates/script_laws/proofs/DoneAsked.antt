@@ -310,27 +310,9 @@ below_low n c e = grind (arith, nat_tests)
 pub clauses_low : (x : Config) (n : ℕ) (code : List Instruction) → list_all (names_channel n) code ≡ true → AreLow n (clauses_in x code)
 unfolding AreLow
 clauses_low x n [] e = tt
-clauses_low x n (line.Send c v ∷ code) e = tt
-clauses_low x n (line.TrySend c v ∷ code) e = tt
-clauses_low x n (line.Receive c ∷ code) e = tt
-clauses_low x n (line.TryReceive c ∷ code) e = tt
-clauses_low x n (line.Close c ∷ code) e = tt
-clauses_low x n (line.CancelChannel c ∷ code) e = tt
-clauses_low x n (line.Yield ∷ code) e = tt
-clauses_low x n (line.Launch p how job ∷ code) e = tt
-clauses_low x n (line.Start j ∷ code) e = tt
-clauses_low x n (line.Join j ∷ code) e = tt
-clauses_low x n (line.Await j ∷ code) e = tt
-clauses_low x n (line.Cancel j ∷ code) e = tt
-clauses_low x n (line.Fail k ∷ code) e = tt
-clauses_low x n (line.SetResult v ∷ code) e = tt
-clauses_low x n (line.Repeat k ∷ code) e = tt
-clauses_low x n (line.Each c ∷ code) e = tt
-clauses_low x n (line.Scope supervisor ∷ code) e = tt
-clauses_low x n (line.Select ∷ code) e = tt
 clauses_low x n (line.OnSend c v ∷ code) e = let two = both_true (nat_lt c n) _ e in (below_low n c two.0, clauses_low x n code two.1)
 clauses_low x n (line.OnReceive c ∷ code) e = let two = both_true (nat_lt c n) _ e in (below_low n c two.0, clauses_low x n code two.1)
-clauses_low x n (line.End ∷ code) e = tt
+clauses_low x n (other ∷ code) e = tt
 
 pub all_drop : (n i : ℕ) (code : List Instruction) → list_all (names_channel n) code ≡ true
     → list_all (names_channel n) (drop i code) ≡ true

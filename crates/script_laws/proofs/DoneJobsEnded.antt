@@ -1,13 +1,14 @@
 -- At the end of a run each Job whose body has ended and no child of which lives has ended.
 use Rattle.std.proofs.Common.{◌≡◌, ℕ, Bool, true, false, not, ◌&&◌, List, [], ◌∷◌, ◌++◌, filter, refl, ap, sym, ◌∙◌, subst, inl, inr, ◌⊎◌, Option, Some, None, if◌then◌else◌}
 use Rattle.std.specs.Prelude.{◌==◌, map}
-use Rattle.std.proofs.lemmas.Bool.{both_ways}
+use Rattle.std.proofs.lemmas.Bool.{both_ways, and_from, and_parts, not-true, not_from_false, true_from_ne_false}
 use Rattle.std.proofs.lemmas.Option.{same_Some}
 use Rattle.channel_model.specs.declared.acts.Entry.{Entry}
+use Rattle.job_model.specs.declared.acts.JobKind.{JobKind}
 use Rattle.job_model.specs.declared.acts.Reason.{Reason}
 use Rattle.job_model.specs.declared.acts.Reason.TheVariants as reasons
 use Rattle.job_model.specs.declared.acts.JobAct.{JobAct}
-use Rattle.job_model.specs.declared.acts.JobAct.TheVariants.{EndBody, Finish, Gone}
+use Rattle.job_model.specs.declared.acts.JobAct.TheVariants.{Attach, Start, EndBody, Cancel, Finish, Gone}
 use Rattle.job_model.specs.declared.acts.JobEntry.{JobEntry}
 use Rattle.job_model.specs.Effects.{after, with_child, state_of_end}
 use Rattle.job_model.specs.Trees.{Job, Tree, root, parent_of, is_done, is_ended, is_none_left, is_among, living}
@@ -49,6 +50,38 @@ pub own_is_cancel : (newly : Bool) (row : ℕ) (reason : Reason) → AreCancels 
 unfolding AreCancels
 own_is_cancel true row reason = (tt, tt)
 own_is_cancel false row reason = tt
+
+-- where only ends of bodies and what follows them raise a debt, only they have to pay
+pub calm_pieces : (p : Program) (jobs : List JobEntry) (k : ℕ) (owes : Tree → Bool) (Raises : JobAct → Type 0) (Takes : JobAct → Told
+    → Type 0)
+    → ((parent row : ℕ) (kind : JobKind) (tag : ℕ) (now : Bool) → Raises (Attach parent row kind tag now) → ⊥)
+    → ((row : ℕ) → Raises (Start row) → ⊥)
+    → ((row : ℕ) (reason : Reason) → Raises (Cancel row reason) → ⊥)
+    → ((row v : ℕ) (chain : List Told) → AllKnown (parents_in jobs) chain → Chain (base_of p) row chain
+    → JobPaid k owes Raises Takes (did (EndBody row v) ∷ chain))
+    → (g : List Told) → AllKnown (parents_in jobs) g → JobPiece p k g → JobPaid k owes Raises Takes g
+unfolding AllPaid AllKnown
+calm_pieces p jobs k owes Raises Takes a s c body _ h (JobPiece.quiet g q) = paid_quiet k owes Raises Takes g q
+calm_pieces p jobs k owes Raises Takes a s c body _ h (JobPiece.attaches parent row kind tag now) =
+    (λ x. absurd (a parent row kind tag now x), tt)
+calm_pieces p jobs k owes Raises Takes a s c body _ h (JobPiece.starts row) = (λ x. absurd (s row x), tt)
+calm_pieces p jobs k owes Raises Takes a s c body g h (JobPiece.passes row reason newly _ m o t) =
+    let known = known_right (parents_in jobs) (map did (own_cancel newly row reason ++ t.below)) (on_jobs (PassedBelow row t.below) ∷ [])
+    (subst (AllKnown (parents_in jobs)) t.all h) in
+    subst (JobPaid k owes Raises Takes) (sym t.all) (paid_then k owes Raises Takes (map did (own_cancel newly row reason ++ t.below)) _
+    (paid_cancels k owes Raises Takes _ (cancels_then (own_cancel newly row reason) t.below (own_is_cancel newly row reason) known.0.0)
+    c) (tt, tt))
+calm_pieces p jobs k owes Raises Takes a s c body g h (JobPiece.fails f up pass _ t e) =
+    let all = subst (AllKnown (parents_in jobs)) e h in
+    let first = known_right (parents_in jobs) (map did (own_cancel true k (reasons.Own f) ++ t.below))
+    (on_jobs (PassedBelow k t.below) ∷ []) (subst (AllKnown (parents_in jobs)) t.all (known_left (parents_in jobs) pass _ all)) in
+    let second = known_right (parents_in jobs) (map did up) (on_jobs (FailedUp k up) ∷ []) (known_right (parents_in jobs) pass _ all) in
+    subst (JobPaid k owes Raises Takes) (sym e) (paid_then k owes Raises Takes pass _
+    (subst (JobPaid k owes Raises Takes) (sym t.all) (paid_then k owes Raises Takes (map did (own_cancel true k (reasons.Own f) ++ t.below))
+    _ (paid_cancels k owes Raises Takes _ (cancels_then (own_cancel true k (reasons.Own f)) t.below
+    (own_is_cancel true k (reasons.Own f)) first.0.0) c) (tt, tt)))
+    (paid_then k owes Raises Takes (map did up) _ (paid_cancels k owes Raises Takes up second.0.0 c) (tt, tt)))
+calm_pieces p jobs k owes Raises Takes a s c body _ h (JobPiece.ends_body row v chain t) = body row v chain h.1 t
 
 -- ---- owed ends
 
@@ -109,32 +142,12 @@ chain_pays p jobs k r row g h (Chain.goes_up _ parent end closes rest _ n c up e
 
 end_pieces_pay : (p : Program) (jobs : List JobEntry) (r k : ℕ) (g : List Told) → AllKnown (parents_in jobs) g → JobPiece p k g
     → EndPaid jobs k r g
-unfolding AllPaid AllKnown
-end_pieces_pay p jobs r k _ h (JobPiece.quiet g q) = paid_quiet k (owes_end r) (RaisesEnd (parents_in jobs) r) (TakesEnd r) g q
-end_pieces_pay p jobs r k g h (JobPiece.passes row reason newly _ m o s) =
-    let known = known_right (parents_in jobs) (map did (own_cancel newly row reason ++ s.below)) (on_jobs (PassedBelow row s.below) ∷ [])
-    (subst (AllKnown (parents_in jobs)) s.all h) in
-    subst (EndPaid jobs k r) (sym s.all) (paid_then k (owes_end r) (RaisesEnd (parents_in jobs) r) (TakesEnd r)
-    (map did (own_cancel newly row reason ++ s.below)) _
-    (paid_cancels k (owes_end r) (RaisesEnd (parents_in jobs) r) (TakesEnd r) _
-    (cancels_then (own_cancel newly row reason) s.below (own_is_cancel newly row reason) known.0.0) (λ q w x. x)) (tt, tt))
-end_pieces_pay p jobs r k g h (JobPiece.fails f up pass _ s e) =
-    let all = subst (AllKnown (parents_in jobs)) e h in
-    let first = known_right (parents_in jobs) (map did (own_cancel true k (reasons.Own f) ++ s.below))
-    (on_jobs (PassedBelow k s.below) ∷ []) (subst (AllKnown (parents_in jobs)) s.all (known_left (parents_in jobs) pass _ all)) in
-    let second = known_right (parents_in jobs) (map did up) (on_jobs (FailedUp k up) ∷ []) (known_right (parents_in jobs) pass _ all) in
-    subst (EndPaid jobs k r) (sym e) (paid_then k (owes_end r) (RaisesEnd (parents_in jobs) r) (TakesEnd r) pass _
-    (subst (EndPaid jobs k r) (sym s.all) (paid_then k (owes_end r) (RaisesEnd (parents_in jobs) r) (TakesEnd r)
-    (map did (own_cancel true k (reasons.Own f) ++ s.below)) _
-    (paid_cancels k (owes_end r) (RaisesEnd (parents_in jobs) r) (TakesEnd r) _
-    (cancels_then (own_cancel true k (reasons.Own f)) s.below (own_is_cancel true k (reasons.Own f)) first.0.0) (λ q w x. x)) (tt, tt)))
-    (paid_then k (owes_end r) (RaisesEnd (parents_in jobs) r) (TakesEnd r) (map did up) _
-    (paid_cancels k (owes_end r) (RaisesEnd (parents_in jobs) r) (TakesEnd r) up second.0.0 (λ q w x. x)) (tt, tt)))
-end_pieces_pay p jobs r k _ h (JobPiece.ends_body row v chain c) = (
-  λ (x : row ≡ r). subst (λ q. Exists (TakesEnd q (EndBody row v)) chain) x (chain_begins p row chain (EndBody row v) c),
-  chain_pays p jobs k r row chain h.1 c,
-)
-end_pieces_pay p jobs r k _ h other = (λ x. absurd x, tt)
+unfolding AllPaid
+end_pieces_pay p jobs r k = calm_pieces p jobs k (owes_end r) (RaisesEnd (parents_in jobs) r) (TakesEnd r) (λ a b c d e x. x) (λ a x. x)
+    (λ a b x. x) (λ row v chain known c. (
+      λ (x : row ≡ r). subst (λ q. Exists (TakesEnd q (EndBody row v)) chain) x (chain_begins p row chain (EndBody row v) c),
+      chain_pays p jobs k r row chain known c,
+    ))
 
 -- which act raises it
 
@@ -149,16 +162,10 @@ fewer_left f (d ∷ cs) c h = at (λ g. fewer_left f cs c g) (f d) h
     at g false h = g h
 
 all_true : (a b c : Bool) → a ≡ true → b ≡ true → c ≡ false → ((a && b) && not c) ≡ true
-all_true true true false p q r = refl
-all_true false b c p q r = cc
-all_true a false c p q r = cc
-all_true a b true p q r = cc
+all_true a b c p q r = and_from (a && b) (not c) (and_from a b p q) (not_from_false c r)
 
 three : (a b c : Bool) → ((a && b) && not c) ≡ true → (a ≡ true) × (b ≡ true) × (c ≡ false)
-three true true false h = (refl, refl, refl)
-three true true true h = cc
-three true false c h = cc
-three false b c h = cc
+three a b c h = let p = and_parts (a && b) (not c) h in let q = and_parts a b p.0 in (q.0, q.1, not-true c p.1)
 
 abbrev pub owes_row : Option Job → Bool
 owes_row x = is_done x && not (has_ended x)
@@ -241,9 +248,7 @@ end_debt p jobs l r = record {
 }
 
 pub other_part : (a b : Bool) → (a && not b) ≡ false → a ≡ true → b ≡ true
-other_part true true e h = refl
-other_part true false e h = cc
-other_part false b e h = cc
+other_part a b e h = true_from_ne_false b (λ k. both_ways (a && not b) e (and_from a (not b) h (not_from_false b k)))
 
 -- a Job whose body has ended and no child of which lives has ended
 pub finished : (p : Program) (books : List (List Item)) (channels : List Entry) (jobs : List JobEntry) → BooksOf p books channels jobs

@@ -1,16 +1,16 @@
 -- Which moves ask for a place of a done channel, and what is told there.
-use Rattle.std.specs.Prelude.{◌≡◌, ℕ, ◌+◌, ◌≤◌, ◌==◌, nat_le, ◌⊎◌, Bool, true, false, not, ◌||◌, ◌&&◌, List, [], ◌∷◌, ◌++◌, length, drop, Option, Some, slice_get, refl}
+use Rattle.std.specs.Prelude.{◌≡◌, ℕ, ◌+◌, ◌≤◌, ◌==◌, nat_le, ◌⊎◌, Bool, true, false, ◌||◌, ◌&&◌, List, [], ◌∷◌, ◌++◌, length, drop, Option, Some, slice_get, refl}
 use Rattle.std.specs.List.{list_any}
 use Rattle.std.proofs.Common.{ap, ◌∙◌, inl, inr, arith}
-use Rattle.std.proofs.lemmas.Bool.{or_from, or_parts}
+use Rattle.std.proofs.lemmas.Bool.{and_parts, or_from, or_parts}
 use Rattle.std.proofs.lemmas.Bool.Decides.{nat_tests}
 use Rattle.std.proofs.lemmas.List.Folds.{list_any-append}
 use Rattle.channel_model.specs.declared.acts.Act.{Act}
-use Rattle.channel_model.specs.declared.acts.Act.TheVariants.{Hand, Put, Offer, Await, Take, Settle}
+use Rattle.channel_model.specs.declared.acts.Act.TheVariants.{Hand, Put, Offer, Await, Settle}
 use Rattle.channel_model.specs.declared.acts.Settled.TheVariants as settled
 use Rattle.channel_model.specs.declared.acts.ChannelNote.TheVariants as of_channel
 use Rattle.job_model.specs.declared.acts.JobAct.{JobAct}
-use Rattle.job_model.specs.declared.acts.JobAct.TheVariants.{Attach, Start, EndBody, Cancel, Finish, Gone}
+use Rattle.job_model.specs.declared.acts.JobAct.TheVariants.{Attach}
 use Rattle.job_model.specs.Acts.{attaches}
 use Rattle.job_model.specs.Done.{done_channel}
 use Rattle.note_book.specs.declared.book.Item.{Item}
@@ -33,6 +33,7 @@ use Rattle.script_meaning.specs.Lines.{LineCalls, StartsAndReceives, After, AtSc
 use Rattle.script_meaning.specs.Moves.{Move}
 use Rattle.script_meaning.proofs.BooksGoOn.{items_in-append}
 use Rattle.script_meaning.proofs.TagsGiven.{launches_row}
+use Rattle.script_laws.proofs.ClosedChannels.{or_more}
 use Rattle.script_laws.proofs.RowsEntered.{enters_row}
 use Rattle.script_laws.proofs.DoneAsked.{gives_place, item_asks, asks_in, plain_none, try_none, select_none, closes_none, cancels_channel_none, gives_up_none, starts_none, refusal_none, passes_none, ends_none, breaks_off_none, below_low, clauses_low, all_drop}
 
@@ -87,33 +88,25 @@ attached_then r xs ys =
     ∙ ap (list_any (attaches r)) (job_acts_in-append (items_in xs) (items_in ys))
     ∙ list_any-append (attaches r) (job_acts_in (items_in xs)) (job_acts_in (items_in ys))
 
+-- where some act passes a test, some act passes one that it implies
+any_more : (f g : JobAct → Bool) → ((act : JobAct) → f act ≡ true → g act ≡ true) → (acts : List JobAct) → list_any f acts ≡ true
+    → list_any g acts ≡ true
+any_more f g k [] e = cc
+any_more f g k (act ∷ acts) e = or_more _ _ _ _ e (k act) (any_more f g k acts)
+
 pub launched_attached : (r : ℕ) (acts : List JobAct) → list_any (launches_row r) acts ≡ true → list_any (attaches r) acts ≡ true
-launched_attached r [] e = cc
-launched_attached r (Attach p q kind tag cancelled ∷ acts) e = by_tests (r == q) (not kind.scoped) e (launched_attached r acts)
+launched_attached r = any_more (launches_row r) (attaches r) one
   where
-    by_tests : (a s : Bool) → ((a && s) || list_any (launches_row r) acts) ≡ true
-        → (list_any (launches_row r) acts ≡ true → list_any (attaches r) acts ≡ true) → (a || list_any (attaches r) acts) ≡ true
-    by_tests true s e more = refl
-    by_tests false s e more = more e
-launched_attached r (Start q ∷ acts) e = launched_attached r acts e
-launched_attached r (EndBody q v ∷ acts) e = launched_attached r acts e
-launched_attached r (Cancel q reason ∷ acts) e = launched_attached r acts e
-launched_attached r (Finish q end ∷ acts) e = launched_attached r acts e
-launched_attached r (Gone q ∷ acts) e = launched_attached r acts e
+    one : (act : JobAct) → launches_row r act ≡ true → attaches r act ≡ true
+    one (Attach p q kind tag cancelled) e = (and_parts (r == q) _ e).0
+    one other e = cc
 
 pub entered_attached : (r : ℕ) (acts : List JobAct) → list_any (enters_row r) acts ≡ true → list_any (attaches r) acts ≡ true
-entered_attached r [] e = cc
-entered_attached r (Attach p q kind tag cancelled ∷ acts) e = by_tests (r == q) kind.scoped e (entered_attached r acts)
+entered_attached r = any_more (enters_row r) (attaches r) one
   where
-    by_tests : (a s : Bool) → ((a && s) || list_any (enters_row r) acts) ≡ true
-        → (list_any (enters_row r) acts ≡ true → list_any (attaches r) acts ≡ true) → (a || list_any (attaches r) acts) ≡ true
-    by_tests true s e more = refl
-    by_tests false s e more = more e
-entered_attached r (Start q ∷ acts) e = entered_attached r acts e
-entered_attached r (EndBody q v ∷ acts) e = entered_attached r acts e
-entered_attached r (Cancel q reason ∷ acts) e = entered_attached r acts e
-entered_attached r (Finish q end ∷ acts) e = entered_attached r acts e
-entered_attached r (Gone q ∷ acts) e = entered_attached r acts e
+    one : (act : JobAct) → enters_row r act ≡ true → attaches r act ≡ true
+    one (Attach p q kind tag cancelled) e = (and_parts (r == q) _ e).0
+    one other e = cc
 
 -- a place of a done channel is one that is asked for
 act_place : (base c : ℕ) (act : Act) → base ≤ c → gives_place base act ≡ false → places_on c act ≡ false
@@ -124,29 +117,18 @@ act_place base c (Hand d q v) le e = other base c d le e
 act_place base c (Put d q v) le e = grind (arith, nat_tests)
 act_place base c (Offer d q v w n) le e = grind (arith, nat_tests)
 act_place base c (Await d q w n) le e = grind (arith, nat_tests)
-act_place base c (Take d q v) le e = refl
 act_place base c other le e = refl
 
 pub not_asked : (base c : ℕ) (items : List Item) → base ≤ c → list_any (item_asks base) items ≡ false
     → list_any (places_on c) (channel_acts_in items) ≡ false
 not_asked base c [] le e = refl
-not_asked base c (item.Job n ∷ items) le e = not_asked base c items le e
 not_asked base c (item.Channel (of_channel.Made act) ∷ items) le e =
     let two = or_parts (gives_place base act) (list_any (item_asks base) items) e in
     or_from (places_on c act) (list_any (places_on c) (channel_acts_in items)) (act_place base c act le two.0)
     (not_asked base c items le two.1)
-not_asked base c (item.Channel (of_channel.SendClosed d u v) ∷ items) le e = not_asked base c items le e
-not_asked base c (item.Channel (of_channel.TrySendClosed d u v) ∷ items) le e = not_asked base c items le e
-not_asked base c (item.Channel (of_channel.ReceiveClosed d v) ∷ items) le e = not_asked base c items le e
-not_asked base c (item.Channel (of_channel.TryReceiveClosed d v) ∷ items) le e = not_asked base c items le e
-not_asked base c (item.Channel (of_channel.AlreadyClosed d v) ∷ items) le e = not_asked base c items le e
-not_asked base c (item.Channel (of_channel.Full d v) ∷ items) le e = not_asked base c items le e
-not_asked base c (item.Channel (of_channel.Empty d) ∷ items) le e = not_asked base c items le e
 not_asked base c (item.Channel (of_channel.Spent d) ∷ items) le e =
     not_asked base c items le (or_parts (nat_le base d) (list_any (item_asks base) items) e).1
-not_asked base c (item.Channel (of_channel.Partner d q) ∷ items) le e = not_asked base c items le e
-not_asked base c (item.Channel (of_channel.MainResolved w) ∷ items) le e = not_asked base c items le e
-not_asked base c (item.Channel (of_channel.Late w) ∷ items) le e = not_asked base c items le e
+not_asked base c (other ∷ items) le e = not_asked base c items le e
 
 -- ---- which moves ask
 

@@ -3,8 +3,7 @@
 use Rattle.std.proofs.lemmas.List.{append-nil}
 use Rattle.std.specs.Prelude.{◌≡◌, ℕ, ◌+◌, ◌<◌, ◌≤◌, ◌==◌, nat_le, ◌⊎◌, Bool, true, false, ◌||◌, ◌&&◌, List, [], ◌∷◌, ◌++◌, Option, Some, None, slice_get, refl}
 use Rattle.std.proofs.Common.{sym, ap, ◌∙◌, subst, inl, ⊎_elim, append_assoc, arith}
-use Rattle.std.proofs.lemmas.Bool.{eqb-true, eq-eqb, or_left, or_right, or_parts, or_cases, false≢true}
-use Rattle.std.proofs.lemmas.Bool.Decides.{nat_tests}
+use Rattle.std.proofs.lemmas.Bool.{eqb-true, eq-eqb, leb-false, and_from, or_left, or_right, or_parts, or_cases, false≢true}
 use Rattle.std.proofs.lemmas.Option.{same_Some}
 use Rattle.co_base.specs.declared.names.WaitId.{WaitId}
 use Rattle.channel_model.specs.declared.acts.Act.TheVariants.{Settle}
@@ -13,6 +12,7 @@ use Rattle.channel_model.specs.declared.acts.Settled.TheVariants as settled
 use Rattle.channel_model.specs.declared.acts.ChannelNote.{ChannelNote}
 use Rattle.channel_model.specs.declared.acts.ChannelNote.TheVariants as of_channel
 use Rattle.job_model.specs.declared.acts.End.{End}
+use Rattle.job_model.proofs.Spans.{or_nothing}
 use Rattle.job_model.specs.declared.acts.JobAct.TheVariants.{Attach}
 use Rattle.note_book.specs.declared.book.Item.{Item}
 use Rattle.note_book.specs.declared.book.Item.TheVariants as item
@@ -34,6 +34,7 @@ use Rattle.script_meaning.specs.Books.{Spawns, Begins, Reaches}
 use Rattle.script_meaning.proofs.CompletedJobs.{EndsSo, SeenAs, ends_left, ends_right}
 use Rattle.script_meaning.proofs.NamedRows.{none_there, named_or_old}
 use Rattle.script_meaning.proofs.TagsGiven.{launched_in, launched_then}
+use Rattle.script_laws.proofs.MovesFrom.{begins_at, stage_is}
 use Rattle.script_laws.proofs.DoneAsked.{admits_none, note_asks, asks_in, refusal_none}
 use Rattle.script_laws.proofs.DonePlacesAsked.{placed_in, closed_in, entered_in, attached_in, placed_then, closed_then, entered_then, attached_then, launched_attached, entered_attached, not_asked, is_join, Receives, MoveAsks, move_asks}
 
@@ -76,31 +77,9 @@ broken_at k done x s _ _ is d other = λ t e. subst (λ (u : InScope). done u.ro
 move_kind : (p : Program) (k : ℕ) (done : ℕ → Bool) (x : Config) (group : List Told) (y : Config) → EndsSo done group → Move p k x group y
     → MoveKind p k done x group y
 unfolding EndsSo
-move_kind p k done _ _ _ e (Move.runs x s) = MoveKind.plain (ap is_plain s)
-move_kind p k done _ _ _ e (Move.never_runs x s) = MoveKind.plain (ap is_plain s)
-move_kind p k done _ _ _ e (Move.calls x y i group a at c f) = MoveKind.plain (ap is_plain at.stage)
 move_kind p k done _ _ _ e (Move.resumes x y w i outcome a s at m f) = MoveKind.resumes w i outcome a s at m f refl
 move_kind p k done _ _ _ e (Move.cancelled x w s) = MoveKind.stops w s refl
 move_kind p k done _ _ _ e (Move.gives_up x w group s g) = MoveKind.stops w s refl
-move_kind p k done _ _ _ e (Move.sees_job x y job row end s at n f) = MoveKind.plain (ap is_plain s)
-move_kind p k done _ _ _ e (Move.closes x c group at g) = MoveKind.plain (ap is_plain at.stage)
-move_kind p k done _ _ _ e (Move.cancels_channel x c group at g) = MoveKind.plain (ap is_plain at.stage)
-move_kind p k done _ _ _ e (Move.yields x at) = MoveKind.plain (ap is_plain at.stage)
-move_kind p k done _ _ _ e (Move.stops_at_yield x at) = MoveKind.plain (ap is_plain at.stage)
-move_kind p k done _ _ _ e (Move.stops_at_join x job at) = MoveKind.plain (ap is_plain at.stage)
-move_kind p k done _ _ _ e (Move.launches x block how job now at) = MoveKind.plain (ap is_plain at.stage)
-move_kind p k done _ _ _ e (Move.launch_refused x block how job group at g) = MoveKind.plain (ap is_plain at.stage)
-move_kind p k done _ _ _ e (Move.enters x supervisor row now at) = MoveKind.plain (ap is_plain at.stage)
-move_kind p k done _ _ _ e (Move.enter_refused x supervisor group at g) = MoveKind.plain (ap is_plain at.stage)
-move_kind p k done _ _ _ e (Move.starts x job row group at n g) = MoveKind.plain (ap is_plain at.stage)
-move_kind p k done _ _ _ e (Move.cancels x job row newly group at n g) = MoveKind.plain (ap is_plain at.stage)
-move_kind p k done _ _ _ e (Move.fails x v at) = MoveKind.plain (ap is_plain at.stage)
-move_kind p k done _ _ _ e (Move.results x o at) = MoveKind.plain (ap is_plain at.stage)
-move_kind p k done _ _ _ e (Move.repeats x n at) = MoveKind.plain (ap is_plain at.stage)
-move_kind p k done _ _ _ e (Move.turns_again x head n es at is) = MoveKind.plain (ap is_plain at.stage)
-move_kind p k done _ _ _ e (Move.turns_no_more x head es at is) = MoveKind.plain (ap is_plain at.stage)
-move_kind p k done _ _ _ e (Move.receives_again x head es at is) = MoveKind.plain (ap is_plain at.stage)
-move_kind p k done _ _ _ e (Move.ends_scope x y s end call all a at is g c f parts) = MoveKind.plain (ap is_plain at.stage)
 move_kind p k done _ _ _ e (Move.scope_ended x w n v s) = MoveKind.leaves w n v s refl refl refl
 move_kind p k done _ _ _ e (Move.sees_scope x y s end at is f) = MoveKind.sees s end at is f e.0
 move_kind p k done _ _ _ e (Move.breaks_scope x y s failure break call all a at is g c f parts) =
@@ -109,7 +88,7 @@ move_kind p k done _ _ _ e (Move.breaks_scope x y s failure break call all a at 
     in
     MoveKind.breaks failure at (broken_at k done x s a y is broken f)
 move_kind p k done _ _ _ e (Move.breaks x failure group s is g) = MoveKind.breaks failure s tt
-move_kind p k done _ _ _ e (Move.ends x group s is g) = MoveKind.plain (ap is_plain s)
+move_kind p k done x group y e other = MoveKind.plain (ap is_plain (stage_is (begins_at other)))
 
 -- ---- a place of a done channel is had once
 
@@ -168,7 +147,6 @@ plain_unwound done Fresh entered e u = u
 plain_unwound done Running entered e u = u
 plain_unwound done (Waiting w) entered e u = u
 plain_unwound done SeesJob entered e u = u
-plain_unwound done (Unwinding failure) entered e u = cc
 plain_unwound done other entered e u = cc
 
 unwound_at : (done : ℕ → Bool) (x : Config) (stage : Stage) → x.stage ≡ stage → IsUnwound done x.stage x.entered
@@ -231,10 +209,10 @@ once_step p k done told x group y row (OnceAsked.unwound u h) (MoveKind.breaks f
 
 -- ---- the rows of names and of scopes
 
-AreNames : List Told → List ℕ → Type 0
+abbrev AreNames : List Told → List ℕ → Type 0
 AreNames told rows = (job row : ℕ) → slice_get rows job ≡ Some row → launched_in row told ≡ true
 
-unfoldable AreEntered : List Told → List Entered → Type 0
+abbrev AreEntered : List Told → List Entered → Type 0
 AreEntered told [] = Unit {0}
 AreEntered told (in_repeat head left ∷ es) = AreEntered told es
 AreEntered told (in_each head ∷ es) = AreEntered told es
@@ -246,7 +224,6 @@ record Rows (told : List Told) (x : Config) : Type 0 where
   scopes : AreEntered told x.entered
 
 entered_more : (told group : List Told) (es : List Entered) → AreEntered told es → AreEntered (told ++ group) es
-unfolding AreEntered
 entered_more told group [] h = tt
 entered_more told group (in_repeat head left ∷ es) h = entered_more told group es h
 entered_more told group (in_each head ∷ es) h = entered_more told group es h
@@ -258,7 +235,6 @@ entered_more told group (in_scope head row ∷ es) h = (
 
 scope_entered : (told : List Told) (es : List Entered) (s : InScope) → scope_in es ≡ Some s → AreEntered told es
     → (entered_in s.row told ≡ true) × AreEntered told s.around
-unfolding AreEntered
 scope_entered told [] s e h = cc
 scope_entered told (in_repeat head left ∷ es) s e h = scope_entered told es s e h
 scope_entered told (in_each head ∷ es) s e h = scope_entered told es s e h
@@ -266,61 +242,27 @@ scope_entered told (in_scope head row ∷ es) s e h =
     let is : record { head = head; row = row; around = es } ≡ s = same_Some _ _ e in
     (subst (λ (t : InScope). entered_in t.row told ≡ true) is h.0, subst (λ (t : InScope). AreEntered told t.around) is h.1)
 
--- nothing changes of them
-same_rows : (told group : List Told) (x y : Config) → y.rows ≡ x.rows → y.entered ≡ x.entered → Rows told x → Rows (told ++ group) y
-unfolding AreNames
-same_rows told group x y e f h = record {
-  names = λ job row at. launched_more row told group (h.names job row (subst (λ rows. slice_get rows job ≡ Some row) e at));
-  scopes = subst (AreEntered (told ++ group)) (sym f) (entered_more told group x.entered h.scopes);
-}
-
--- it is out of its innermost scope
-rows_outside : (told group : List Told) (x y : Config) (s : InScope) → scope_in x.entered ≡ Some s → y.rows ≡ x.rows → y.entered ≡ s.around
-    → Rows told x → Rows (told ++ group) y
-unfolding AreNames
-rows_outside told group x y s is e f h = record {
-  names = λ job row at. launched_more row told group (h.names job row (subst (λ rows. slice_get rows job ≡ Some row) e at));
-  scopes = subst (AreEntered (told ++ group)) (sym f) (entered_more told group s.around (scope_entered told x.entered s is h.scopes).1);
-}
-
--- or has entered or left a loop
+-- its rows are the same, and it has entered no scope, though maybe a loop
 rows_loop : (told group : List Told) (x y : Config) → y.rows ≡ x.rows → (AreEntered told x.entered → AreEntered told y.entered)
     → Rows told x → Rows (told ++ group) y
-unfolding AreNames
 rows_loop told group x y e f h = record {
   names = λ job row at. launched_more row told group (h.names job row (subst (λ rows. slice_get rows job ≡ Some row) e at));
   scopes = entered_more told group y.entered (f h.scopes);
 }
 
-into_each : (told : List Told) (es : List Entered) (head : ℕ) → AreEntered told es → AreEntered told (in_each head ∷ es)
-unfolding AreEntered
-into_each told es head h = h
+-- nothing changes of them
+same_rows : (told group : List Told) (x y : Config) → y.rows ≡ x.rows → y.entered ≡ x.entered → Rows told x → Rows (told ++ group) y
+same_rows told group x y e f = rows_loop told group x y e (subst (AreEntered told) (sym f))
 
-into_repeat : (told : List Told) (es : List Entered) (head n : ℕ) → AreEntered told es → AreEntered told (in_repeat head n ∷ es)
-unfolding AreEntered
-into_repeat told es head n h = h
-
-out_repeat : (told : List Told) (es more : List Entered) (head n : ℕ) → es ≡ in_repeat head n ∷ more → AreEntered told es
-    → AreEntered told more
-unfolding AreEntered
-out_repeat told es more head n e h = subst (AreEntered told) e h
-
-out_each : (told : List Told) (es more : List Entered) (head : ℕ) → es ≡ in_each head ∷ more → AreEntered told es → AreEntered told more
-unfolding AreEntered
-out_each told es more head e h = subst (AreEntered told) e h
+-- it is out of its innermost scope
+rows_outside : (told group : List Told) (x y : Config) (s : InScope) → scope_in x.entered ≡ Some s → y.rows ≡ x.rows → y.entered ≡ s.around
+    → Rows told x → Rows (told ++ group) y
+rows_outside told group x y s is e f = rows_loop told group x y e
+    (λ h. subst (AreEntered told) (sym f) (scope_entered told x.entered s is h).1)
 
 after_rows : (p : Program) (k : ℕ) (told group : List Told) (x : Config) (i : Instruction) (a : Answer) (y : Config) → Rows told x
     → After p k x i a y → Rows (told ++ group) y
-after_rows p k told group x _ _ _ h (After.waits i w) = same_rows told group x (at_stage (Waiting w) x) refl refl h
-after_rows p k told group x _ _ _ h (After.no_place i) = same_rows told group x (at_stage (Unwinding (Some k)) x) refl refl h
-after_rows p k told group x _ _ y h (After.sent c o) = same_rows told group x _ refl refl h
-after_rows p k told group x _ _ y h (After.tried_to_send c o) = same_rows told group x _ refl refl h
-after_rows p k told group x _ _ y h (After.got c v) = same_rows told group x _ refl refl h
-after_rows p k told group x _ _ y h (After.no_more c v) = same_rows told group x _ refl refl h
-after_rows p k told group x _ _ y h (After.tried_and_got c v) = same_rows told group x _ refl refl h
-after_rows p k told group x _ _ y h (After.tried_to_get c) = same_rows told group x _ refl refl h
-after_rows p k told group x _ _ y h (After.got_one_more c v) = rows_loop told group x _ refl (into_each told x.entered x.line) h
-after_rows p k told group x _ _ y h (After.got_all c v e f) = same_rows told group x _ refl refl h
+after_rows p k told group x _ _ y h (After.got_one_more c v) = rows_loop told group x _ refl (λ e. e) h
 after_rows p k told group x _ _ y h other = same_rows told group x _ refl refl h
 
 end_rows : (k : ℕ) (told group : List Told) (x : Config) (s : InScope) (a : Answer) (y : Config) → scope_in x.entered ≡ Some s → Rows told x
@@ -331,86 +273,54 @@ end_rows k told group x s _ _ is h other = same_rows told group x _ refl refl h
 past_rows : (p : Program) (k : ℕ) (told group : List Told) (x : Config) (s : InScope) (end : End) (y : Config) → scope_in x.entered ≡ Some s
     → Rows told x → AfterScope p k x s end y → Rows (told ++ group) y
 past_rows p k told group x s _ _ is h (AfterScope.completed v e c) = rows_outside told group x _ s is refl refl h
-past_rows p k told group x s _ _ is h AfterScope.cancelled = rows_outside told group x _ s is refl refl h
-past_rows p k told group x s _ _ is h (AfterScope.failed f) = rows_outside told group x _ s is refl refl h
+past_rows p k told group x s _ _ is h other = rows_outside told group x _ s is refl refl h
 
 await_rows : (told group : List Told) (x : Config) (end : End) (y : Config) → Rows told x → AfterAwait x end y → Rows (told ++ group) y
 await_rows told group x _ _ h (AfterAwait.completed v) = same_rows told group x _ refl refl h
-await_rows told group x _ _ h AfterAwait.cancelled = same_rows told group x _ refl refl h
-await_rows told group x _ _ h (AfterAwait.failed f) = same_rows told group x _ refl refl h
+await_rows told group x _ _ h other = same_rows told group x _ refl refl h
 
 launch_rows : (told : List Told) (parent free : ℕ) (lazy now : Bool) (job : Option ℕ) (rows : List ℕ) → AreNames told rows
     → AreNames (told ++ did (Attach parent free (child_kind lazy) free now) ∷ []) (named job free rows)
-unfolding AreNames items_in
+unfolding items_in
 launch_rows told parent free lazy now job rows h n r at =
     let group = did (Attach parent free (child_kind lazy) free now) ∷ [] in
     ⊎_elim
     (λ e. launched_then r told group ∙ or_right (launched_in r told) (launched_in r group)
-    (or_left ((r == free) && true) false (and_true (r == free) (eq-eqb r free e))))
+    (or_left ((r == free) && true) false (and_from (r == free) true (eq-eqb r free e) refl)))
     (λ e. launched_more r told group (h n r e))
     (named_or_old job free rows n r at)
-  where
-    and_true : (b : Bool) → b ≡ true → (b && true) ≡ true
-    and_true true e = refl
-    and_true false e = e
 
 enter_rows : (told : List Told) (parent row head tag : ℕ) (supervisor now : Bool) (es : List Entered) → AreEntered told es
     → AreEntered (told ++ did (Attach parent row (scope_kind supervisor) tag now) ∷ []) (in_scope head row ∷ es)
-unfolding AreEntered items_in
+unfolding items_in
 enter_rows told parent row head tag supervisor now es h =
     let group = did (Attach parent row (scope_kind supervisor) tag now) ∷ [] in (
       entered_then row told group ∙ or_right (entered_in row told) (entered_in row group)
-          (or_left ((row == row) && true) false (and_true (row == row) (eq-eqb row row refl))),
+          (or_left ((row == row) && true) false (and_from (row == row) true (eq-eqb row row refl) refl)),
       entered_more told group es h,
     )
-  where
-    and_true : (b : Bool) → b ≡ true → (b && true) ≡ true
-    and_true true e = refl
-    and_true false e = e
-
-names_more : (told group : List Told) (rows : List ℕ) → AreNames told rows → AreNames (told ++ group) rows
-unfolding AreNames
-names_more told group rows h = λ job row at. launched_more row told group (h job row at)
 
 move_rows : (p : Program) (k : ℕ) (told : List Told) (x : Config) (group : List Told) (y : Config) → Rows told x → Move p k x group y
     → Rows (told ++ group) y
-move_rows p k told _ _ _ h (Move.runs x s) = same_rows told _ x _ refl refl h
-move_rows p k told _ _ _ h (Move.never_runs x s) = same_rows told _ x _ refl refl h
 move_rows p k told _ _ _ h (Move.calls x y i group a at c f) = after_rows p k told group x i a y h f
 move_rows p k told _ _ _ h (Move.resumes x y w i outcome a s at m f) = after_rows p k told _ x i a y h f
-move_rows p k told _ _ _ h (Move.cancelled x w s) = same_rows told _ x _ refl refl h
-move_rows p k told _ _ _ h (Move.gives_up x w group s g) = same_rows told _ x _ refl refl h
 move_rows p k told _ _ _ h (Move.sees_job x y job row end s at n f) = await_rows told _ x end y h f
-move_rows p k told _ _ _ h (Move.closes x c group at g) = same_rows told group x _ refl refl h
-move_rows p k told _ _ _ h (Move.cancels_channel x c group at g) = same_rows told group x _ refl refl h
-move_rows p k told _ _ _ h (Move.yields x at) = same_rows told _ x _ refl refl h
-move_rows p k told _ _ _ h (Move.stops_at_yield x at) = same_rows told _ x _ refl refl h
-move_rows p k told _ _ _ h (Move.stops_at_join x job at) = same_rows told _ x _ refl refl h
 move_rows p k told _ _ _ h (Move.launches x block how job now at) = record {
   names = launch_rows told (innermost k x) x.free (is_lazy how) now job x.rows h.names;
   scopes = entered_more told _ x.entered h.scopes;
 }
-move_rows p k told _ _ _ h (Move.launch_refused x block how job group at g) = same_rows told group x _ refl refl h
 move_rows p k told _ _ _ h (Move.enters x supervisor row now at) = record {
-  names = names_more told _ x.rows h.names;
+  names = λ job r at. launched_more r told _ (h.names job r at);
   scopes = enter_rows told (innermost k x) row x.line k supervisor now x.entered h.scopes;
 }
-move_rows p k told _ _ _ h (Move.enter_refused x supervisor group at g) = same_rows told group x _ refl refl h
-move_rows p k told _ _ _ h (Move.starts x job row group at n g) = same_rows told group x _ refl refl h
-move_rows p k told _ _ _ h (Move.cancels x job row newly group at n g) = same_rows told group x _ refl refl h
-move_rows p k told _ _ _ h (Move.fails x v at) = same_rows told _ x _ refl refl h
-move_rows p k told _ _ _ h (Move.results x o at) = same_rows told _ x _ refl refl h
-move_rows p k told _ _ _ h (Move.repeats x n at) = rows_loop told _ x _ refl (into_repeat told x.entered x.line n) h
-move_rows p k told _ _ _ h (Move.turns_again x head n es at is) =
-    rows_loop told _ x _ refl (λ e. into_repeat told es head n (out_repeat told x.entered es head (n + 1) is e)) h
-move_rows p k told _ _ _ h (Move.turns_no_more x head es at is) = rows_loop told _ x _ refl (out_repeat told x.entered es head 0 is) h
-move_rows p k told _ _ _ h (Move.receives_again x head es at is) = rows_loop told _ x _ refl (out_each told x.entered es head is) h
+move_rows p k told _ _ _ h (Move.repeats x n at) = rows_loop told _ x _ refl (λ e. e) h
+move_rows p k told _ _ _ h (Move.turns_again x head n es at is) = rows_loop told _ x _ refl (subst (AreEntered told) is) h
+move_rows p k told _ _ _ h (Move.turns_no_more x head es at is) = rows_loop told _ x _ refl (subst (AreEntered told) is) h
+move_rows p k told _ _ _ h (Move.receives_again x head es at is) = rows_loop told _ x _ refl (subst (AreEntered told) is) h
 move_rows p k told _ _ _ h (Move.ends_scope x y s end call all a at is g c f parts) = end_rows k told all x s a y (ap scope_in is) h f
-move_rows p k told _ _ _ h (Move.scope_ended x w n v s) = same_rows told _ x _ refl refl h
 move_rows p k told _ _ _ h (Move.sees_scope x y s end at is f) = past_rows p k told _ x s end y is h f
 move_rows p k told _ _ _ h (Move.breaks_scope x y s failure break call all a at is g c f parts) = end_rows k told all x s a y is h f
-move_rows p k told _ _ _ h (Move.breaks x failure group s is g) = same_rows told group x _ refl refl h
-move_rows p k told _ _ _ h (Move.ends x group s is g) = same_rows told group x _ refl refl h
+move_rows p k told x group y h other = same_rows told group x y refl refl h
 
 -- ---- a receive on a done channel
 
@@ -425,15 +335,10 @@ call_placed base c d _ _ le (PlainCall.at_once _ call a (AtOnce.takes _ v q admi
     absurd (false≢true (sym (not_placed base d admits le (admits_none base c admits h)) ∙ e))
 call_placed base c d _ _ le (PlainCall.refused _ t a (Refused.receive _ u)) e = cc
 call_placed base c d _ _ le (PlainCall.no_place _ all is) e = absurd (false≢true (sym (ap (placed_in d) is) ∙ e))
-call_placed base c d _ _ le (PlainCall.awaits _ q) e = (q, refl, eqb-true c d (only (c == d) e))
-  where
-    only : (b : Bool) → (b || false) ≡ true → b ≡ true
-    only true f = refl
-    only false f = f
+call_placed base c d _ _ le (PlainCall.awaits _ q) e = (q, refl, eqb-true c d (⊎_elim (λ k. k) (λ k. cc) (or_cases (c == d) false e)))
 
 receives_waits : (p : Program) (k : ℕ) (done : ℕ → Bool) (told group : List Told) (x : Config) (row q : ℕ) (y : Config) → Rows told x
     → Receives p k x row (Waits (wait_at (base_of p + row) q)) y → OnceAsked p k done (told ++ group) y row
-unfolding AreNames
 receives_waits p k done told group x row q _ h (Receives.at_line i job at j n (After.waits _ w)) =
     OnceAsked.waits w i refl refl at.line_is j (launched_more row told group (h.names job row n))
 receives_waits p k done told group x row q _ h (Receives.at_end s e is (AtScopeEnd.waits w) f) = OnceAsked.leaves w refl refl
@@ -444,7 +349,6 @@ attached_more row told group e = attached_then row told group ∙ or_left (attac
 -- the row is one that it attached
 receives_own : (p : Program) (k : ℕ) (told : List Told) (x : Config) (row : ℕ) (a : Answer) (y : Config) → Rows told x
     → Receives p k x row a y → attached_in row told ≡ true
-unfolding AreNames
 receives_own p k told x row a y h (Receives.at_line i job at j n f) =
     launched_attached row (job_acts_in (items_in told)) (h.names job row n)
 receives_own p k told x row a y h (Receives.at_end s e is f g) =
@@ -511,15 +415,10 @@ asked_then base seen (x ∷ xs) ys h m = (
 )
 
 not_low : (base c row : ℕ) → nat_le base c ≡ false → c ≡ base + row → ⊥
-not_low base c row e f = by_test (nat_le base c) refl e
-  where
-    by_test : (b : Bool) → nat_le base c ≡ b → b ≡ false → ⊥
-    by_test true g h = cc
-    by_test false g h = let low : c < base = grind (arith, nat_tests) in omega (arith, low, f)
+not_low base c row e f = omega (arith, leb-false base c e, f)
 
 quiet_note : (base : ℕ) (seen : List Told) (n : ChannelNote) → note_asks base n ≡ false → NoteAsked base seen n
 quiet_note base seen (of_channel.Spent c) e = λ row f. absurd (not_low base c row e f)
-quiet_note base seen (of_channel.Made act) e = tt
 quiet_note base seen other e = tt
 
 quiet_asked : (base : ℕ) (seen group : List Told) → asks_in base group ≡ false → AllAsked base seen group
@@ -527,17 +426,11 @@ unfolding AllAsked items_in
 quiet_asked base seen [] e = tt
 quiet_asked base seen (note (item.Channel n) ∷ group) e = let two = or_parts (note_asks base n) (asks_in base group) e
     in (quiet_note base seen n two.0, quiet_asked base (seen ++ note (item.Channel n) ∷ []) group two.1)
-quiet_asked base seen (note (item.Job n) ∷ group) e = (tt, quiet_asked base (seen ++ note (item.Job n) ∷ []) group e)
-quiet_asked base seen (on_channels fact ∷ group) e = (tt, quiet_asked base (seen ++ on_channels fact ∷ []) group e)
-quiet_asked base seen (on_jobs fact ∷ group) e = (tt, quiet_asked base (seen ++ on_jobs fact ∷ []) group e)
+quiet_asked base seen (other ∷ group) e = (tt, quiet_asked base (seen ++ other ∷ []) group e)
 
 fact_places : (c : ℕ) (seen : List Told) (d : ℕ) → placed_in c (seen ++ on_channels (SpentForReceives d) ∷ []) ≡ placed_in c seen
 unfolding items_in
-fact_places c seen d = placed_then c seen (on_channels (SpentForReceives d) ∷ []) ∙ or_none (placed_in c seen)
-  where
-    or_none : (b : Bool) → (b || false) ≡ b
-    or_none true = refl
-    or_none false = refl
+fact_places c seen d = placed_then c seen (on_channels (SpentForReceives d) ∷ []) ∙ sym (or_nothing (placed_in c seen))
 
 -- a receive on a done channel
 call_asked : (base row : ℕ) (seen call : List Told) (a : Answer) → attached_in row seen ≡ true
@@ -655,7 +548,6 @@ begins_ask p base _ _ _ (Begins.root group x s) = spawns_ask p base (spawned p) 
 begins_ask p base _ _ _ (Begins.child k n) = (refl, refl, refl)
 
 begun_rows : (group : List Told) (x : Config) → x.rows ≡ [] → x.entered ≡ [] → Rows group x
-unfolding AreNames AreEntered
 begun_rows group x e f = record {
   names = λ job row at. none_there job row (subst (λ rows. slice_get rows job ≡ Some row) e at);
   scopes = subst (AreEntered group) (sym f) tt;

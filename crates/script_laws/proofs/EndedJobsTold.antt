@@ -1,13 +1,10 @@
 -- At the end of a run the parent of each ended Job was told.
 use Rattle.std.proofs.Common.{◌≡◌, ◌≢◌, ℕ, Bool, true, false, not, ◌&&◌, List, [], ◌∷◌, ◌++◌, refl, ap, sym, ◌∙◌, subst, Option, Some, None, if◌then◌else◌}
-use Rattle.std.specs.Prelude.{◌==◌, map}
-use Rattle.std.proofs.lemmas.Bool.{both_ways}
+use Rattle.std.specs.Prelude.{◌==◌}
+use Rattle.std.proofs.lemmas.Bool.{both_ways, and_from, and_parts, not-true, not_from_false, false_from_ne_true}
 use Rattle.channel_model.specs.declared.acts.Entry.{Entry}
-use Rattle.job_model.specs.declared.acts.JobKind.{JobKind}
-use Rattle.job_model.specs.declared.acts.Reason.{Reason}
-use Rattle.job_model.specs.declared.acts.Reason.TheVariants as reasons
 use Rattle.job_model.specs.declared.acts.JobAct.{JobAct}
-use Rattle.job_model.specs.declared.acts.JobAct.TheVariants.{Attach, Start, EndBody, Cancel, Finish, Gone}
+use Rattle.job_model.specs.declared.acts.JobAct.TheVariants.{EndBody, Finish, Gone}
 use Rattle.job_model.specs.declared.acts.JobEntry.{JobEntry}
 use Rattle.job_model.specs.Effects.{after}
 use Rattle.job_model.specs.Trees.{Job, Tree, root, is_ended, was_told, parent_row}
@@ -20,52 +17,19 @@ use Rattle.job_model.proofs.Steps.{RowStep, row_step}
 use Rattle.job_model.proofs.Families.{replay_families}
 use Rattle.job_model.proofs.RowMarks.{tell_mark}
 use Rattle.job_model.proofs.Rows.{same}
-use Rattle.job_model.specs.Cancels.{own_cancel}
 use Rattle.note_book.specs.declared.book.Item.{Item}
-use Rattle.call_meaning.specs.Telling.{Told, note, on_jobs, PassedBelow, FailedUp, did}
+use Rattle.call_meaning.specs.Telling.{Told, note, did}
 use Rattle.call_meaning.specs.JobCalls.{Chain}
 use Rattle.script_grammar.specs.Programs.{Program}
 use Rattle.script_meaning.specs.Shapes.{job_shape, base_of}
 use Rattle.script_meaning.specs.Books.{BooksOf}
 use Rattle.script_meaning.proofs.Debts.{exists_first, exists_right}
 use Rattle.script_meaning.proofs.Payments.{AllPaid}
-use Rattle.script_meaning.proofs.JobPieces.{job_told, act_in_item, JobPiece, quiet_closes}
-use Rattle.script_meaning.proofs.JobDebts.{parents_in, AllKnown, known_left, known_right, cancels_then, JobPaid, JobDebt, paid_then, paid_quiet, paid_cancels, nobody_owes, needs_there}
-use Rattle.script_laws.proofs.DoneJobsEnded.{ActPasses, own_is_cancel, other_part}
+use Rattle.script_meaning.proofs.JobPieces.{job_told, act_in_item, quiet_closes}
+use Rattle.script_meaning.proofs.JobDebts.{JobPaid, JobDebt, paid_then, paid_quiet, nobody_owes, needs_there}
+use Rattle.script_laws.proofs.DoneJobsEnded.{ActPasses, calm_pieces, other_part}
 use Rattle.channel_model.proofs.Plain.{and_false}
 use Rattle.job_model.proofs.Ends.{ended_before_body, not_first, ended_is}
-
--- where only ends of bodies and what follows them raise a debt, only they have to pay
-pub calm_pieces : (p : Program) (jobs : List JobEntry) (k : ℕ) (owes : Tree → Bool) (Raises : JobAct → Type 0) (Takes : JobAct → Told
-    → Type 0)
-    → ((parent row : ℕ) (kind : JobKind) (tag : ℕ) (now : Bool) → Raises (Attach parent row kind tag now) → ⊥)
-    → ((row : ℕ) → Raises (Start row) → ⊥)
-    → ((row : ℕ) (reason : Reason) → Raises (Cancel row reason) → ⊥)
-    → ((row v : ℕ) (chain : List Told) → AllKnown (parents_in jobs) chain → Chain (base_of p) row chain
-    → JobPaid k owes Raises Takes (did (EndBody row v) ∷ chain))
-    → (g : List Told) → AllKnown (parents_in jobs) g → JobPiece p k g → JobPaid k owes Raises Takes g
-unfolding AllPaid AllKnown
-calm_pieces p jobs k owes Raises Takes a s c body _ h (JobPiece.quiet g q) = paid_quiet k owes Raises Takes g q
-calm_pieces p jobs k owes Raises Takes a s c body _ h (JobPiece.attaches parent row kind tag now) =
-    (λ x. absurd (a parent row kind tag now x), tt)
-calm_pieces p jobs k owes Raises Takes a s c body _ h (JobPiece.starts row) = (λ x. absurd (s row x), tt)
-calm_pieces p jobs k owes Raises Takes a s c body g h (JobPiece.passes row reason newly _ m o t) =
-    let known = known_right (parents_in jobs) (map did (own_cancel newly row reason ++ t.below)) (on_jobs (PassedBelow row t.below) ∷ [])
-    (subst (AllKnown (parents_in jobs)) t.all h) in
-    subst (JobPaid k owes Raises Takes) (sym t.all) (paid_then k owes Raises Takes (map did (own_cancel newly row reason ++ t.below)) _
-    (paid_cancels k owes Raises Takes _ (cancels_then (own_cancel newly row reason) t.below (own_is_cancel newly row reason) known.0.0)
-    c) (tt, tt))
-calm_pieces p jobs k owes Raises Takes a s c body g h (JobPiece.fails f up pass _ t e) =
-    let all = subst (AllKnown (parents_in jobs)) e h in
-    let first = known_right (parents_in jobs) (map did (own_cancel true k (reasons.Own f) ++ t.below))
-    (on_jobs (PassedBelow k t.below) ∷ []) (subst (AllKnown (parents_in jobs)) t.all (known_left (parents_in jobs) pass _ all)) in
-    let second = known_right (parents_in jobs) (map did up) (on_jobs (FailedUp k up) ∷ []) (known_right (parents_in jobs) pass _ all) in
-    subst (JobPaid k owes Raises Takes) (sym e) (paid_then k owes Raises Takes pass _
-    (subst (JobPaid k owes Raises Takes) (sym t.all) (paid_then k owes Raises Takes (map did (own_cancel true k (reasons.Own f) ++ t.below))
-    _ (paid_cancels k owes Raises Takes _ (cancels_then (own_cancel true k (reasons.Own f)) t.below
-    (own_is_cancel true k (reasons.Own f)) first.0.0) c) (tt, tt)))
-    (paid_then k owes Raises Takes (map did up) _ (paid_cancels k owes Raises Takes up second.0.0 c) (tt, tt)))
-calm_pieces p jobs k owes Raises Takes a s c body _ h (JobPiece.ends_body row v chain t) = body row v chain h.1 t
 
 -- it has ended, and its parent was not told
 abbrev pub owes_word : ℕ → Tree → Bool
@@ -111,22 +75,17 @@ body_tells p k r row v chain n c = (λ x. absurd x, chain_tells p k r row chain 
 word_raised : (shape : _) (tree : Tree) (who r : ℕ) (act : JobAct) (x y : Option Job) → RowStep shape tree who r act x y
     → has_ended x ≡ false → has_ended y ≡ true → RaisesWord r act
 word_raised shape tree who r _ _ _ (RowStep.is_attached p kind tag cancelled m i) f t = absurd (not_first cancelled kind.lazy t)
-word_raised shape tree who r _ _ _ (RowStep.has_child c kind tag cancelled j none m) f t = absurd (both_ways (is_ended j.state) f t)
 word_raised shape tree who r _ _ _ (RowStep.body_ends v j m) f t = absurd (both_ways (is_ended j.state) f (ended_before_body j.state t))
 word_raised shape tree who r _ _ _ (RowStep.ends end j m) f t = refl
-word_raised shape tree who r _ _ _ (RowStep.is_told c j m p) f t = absurd (both_ways (is_ended j.state) f t)
-word_raised shape tree who r _ _ _ (RowStep.stays act x a b c d e) f t = absurd (both_ways (has_ended x) f t)
-word_raised shape tree who r _ _ _ other f t = cc
+word_raised shape tree who r _ _ _ (RowStep.is_started j n) f t = cc
+word_raised shape tree who r _ _ _ (RowStep.is_cancelled reason j m o) f t = cc
+word_raised shape tree who r act x y other f t = absurd (both_ways (has_ended x) f t)
 
 pub parts_of : (a b : Bool) → (a && not b) ≡ true → (a ≡ true) × (b ≡ false)
-parts_of true false h = (refl, refl)
-parts_of true true h = cc
-parts_of false b h = cc
+parts_of a b h = let both = and_parts a (not b) h in (both.0, not-true b both.1)
 
 pub not_before : (a b : Bool) → (a && not b) ≡ false → (b ≡ true → ⊥) → a ≡ false
-not_before true true h n = absurd (n refl)
-not_before true false h n = cc
-not_before false b h n = refl
+not_before a b h n = false_from_ne_true a (λ k. both_ways (a && not b) h (and_from a _ k (not_from_false b (false_from_ne_true b n))))
 
 word_by_told : (r : ℕ) (a : JobAct) (t : Told) (at : List JobEntry) → job_told t ≡ None → TakesWord r a t → owes_word r (replay at) ≡ false
 word_by_told r a (note i) at m t = absurd (subst (ActPasses (IsGoneOf r)) m t)

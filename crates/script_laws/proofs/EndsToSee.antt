@@ -83,39 +83,25 @@ ends_closed told more all w c n v e h =
 
 receive_waits : (call : Call) (c : ℕ) (group : List Told) (a : Answer) (w : WaitId) → PlainCall call group a → call ≡ receives c
     → a ≡ Waits w → AwaitsOn group w c
-receive_waits _ c _ _ w (PlainCall.at_once call group a h) e f = absurd (no_wait call group a h f)
-  where
-    no_wait : (call : Call) (group : List Told) (a : Answer) → AtOnce call group a → a ≡ Waits w → ⊥
-    no_wait _ _ _ (AtOnce.hands d v q) f = cc
-    no_wait _ _ _ (AtOnce.puts d v q more i) f = cc
-    no_wait _ _ _ (AtOnce.takes d v q admits i) f = cc
-receive_waits _ c _ _ w (PlainCall.refused call told a h) e f = absurd (no_wait call told a h f)
-  where
-    no_wait : (call : Call) (told : Told) (a : Answer) → Refused call told a → a ≡ Waits w → ⊥
-    no_wait _ _ _ (Refused.send d v u) f = cc
-    no_wait _ _ _ (Refused.receive d u) f = cc
 receive_waits _ c _ _ w (PlainCall.awaits d q) e f =
     let same : d ≡ c = cc in
     let is : wait_at d q ≡ w = cc in
     subst (λ n. AwaitsOn (made (Await d q (wait_at d q) 0) ∷ []) w n) same
     (record { before = []; place = q; behind = []; told_is = refl; wait = sym is })
+receive_waits _ c _ _ w (PlainCall.at_once _ _ _ (AtOnce.hands d v q)) e f = cc
+receive_waits _ c _ _ w (PlainCall.at_once _ _ _ other) e f = cc
+receive_waits _ c _ _ w (PlainCall.refused _ _ _ (Refused.send d v u)) e f = cc
+receive_waits _ c _ _ w (PlainCall.refused _ _ _ other) e f = cc
 receive_waits _ c _ _ w other e f = cc
 
 receive_closed : (call : Call) (c : ℕ) (group : List Told) (a : Answer) (v : ℕ) → PlainCall call group a → call ≡ receives c → a ≡ Closed v
     → ToldClosed group c
-receive_closed _ c _ _ v (PlainCall.at_once call group a h) e f = absurd (not_closed call group a h f)
-  where
-    not_closed : (call : Call) (group : List Told) (a : Answer) → AtOnce call group a → a ≡ Closed v → ⊥
-    not_closed _ _ _ (AtOnce.hands d u q) f = cc
-    not_closed _ _ _ (AtOnce.puts d u q more i) f = cc
-    not_closed _ _ _ (AtOnce.takes d u q admits i) f = cc
-receive_closed _ c _ _ v (PlainCall.refused call told a h) e f = met call told a h e f
-  where
-    met : (call : Call) (told : Told) (a : Answer) → Refused call told a → call ≡ receives c → a ≡ Closed v → ToldClosed (told ∷ []) c
-    met _ _ _ (Refused.send d x u) e f = cc
-    met _ _ _ (Refused.receive d u) e f = let same : d ≡ c = cc
-        in subst (λ n. ToldClosed (heard (ReceiveClosed d u) ∷ []) n) same (ToldClosed.met [] u [] refl)
-receive_closed _ c _ _ v (PlainCall.no_place call all is) e f = cc
+receive_closed _ c _ _ v (PlainCall.at_once _ _ _ (AtOnce.hands d u q)) e f = cc
+receive_closed _ c _ _ v (PlainCall.at_once _ _ _ other) e f = cc
+receive_closed _ c _ _ v (PlainCall.refused _ _ _ (Refused.send d x u)) e f = cc
+receive_closed _ c _ _ v (PlainCall.refused _ _ _ (Refused.receive d u)) e f =
+    let same : d ≡ c = cc in
+    subst (λ n. ToldClosed (heard (ReceiveClosed d u) ∷ []) n) same (ToldClosed.met [] u [] refl)
 receive_closed _ c _ _ v other e f = cc
 
 -- ---- where a coroutine waits for an end, or has to see one

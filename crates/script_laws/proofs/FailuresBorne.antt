@@ -1,12 +1,12 @@
 -- At the end of a run the parent of a Job that failed and is no scope is a supervisor, Cancelling or Cancelled.
 use Rattle.std.proofs.Common.{◌≡◌, ◌≢◌, ℕ, Bool, true, false, not, ◌&&◌, List, [], ◌∷◌, ◌++◌, refl, ap, sym, ◌∙◌, subst, inl, inr, ◌⊎◌, ⊎_elim, Option, Some, None, if◌then◌else◌}
 use Rattle.std.specs.Prelude.{◌==◌, ◌||◌, map, MatchBool}
-use Rattle.std.proofs.lemmas.Bool.{eqb-true, both_ways, or_right, and_parts, or_cases}
+use Rattle.std.proofs.lemmas.Bool.{eqb-true, both_ways, false_from_ne_true, not_from_false, or_right, and_from, and_parts, or_cases}
 use Rattle.channel_model.specs.declared.acts.Entry.{Entry}
 use Rattle.job_model.specs.declared.acts.Cause.{Cause}
 use Rattle.job_model.specs.declared.acts.Cause.TheVariants as because
 use Rattle.job_model.specs.declared.acts.JobState.{JobState}
-use Rattle.job_model.specs.declared.acts.JobState.TheVariants.{New, Active, Completing, Cancelling, Cancelled, Completed}
+use Rattle.job_model.specs.declared.acts.JobState.TheVariants.{New, Cancelling, Cancelled, Completed}
 use Rattle.job_model.specs.declared.acts.Reason.{Reason}
 use Rattle.job_model.specs.declared.acts.Reason.TheVariants as reasons
 use Rattle.job_model.specs.declared.acts.JobAct.{JobAct}
@@ -29,17 +29,16 @@ use Rattle.job_model.specs.Failures.{FailsUp, StaysBelow, IsScope, IsSupervisor}
 use Rattle.note_book.specs.declared.book.Item.{Item}
 use Rattle.call_meaning.specs.Telling.{Told, on_jobs, JobFact, PassedBelow, FailedUp, did}
 use Rattle.call_meaning.specs.Facts.{IsAlive}
-use Rattle.call_meaning.specs.JobCalls.{Chain}
 use Rattle.script_grammar.specs.Programs.{Program}
-use Rattle.script_meaning.specs.Shapes.{job_shape, base_of}
+use Rattle.script_meaning.specs.Shapes.{job_shape}
 use Rattle.script_meaning.specs.Rest.{BearsFailures}
 use Rattle.script_meaning.specs.Books.{BooksOf}
 use Rattle.script_meaning.proofs.Debts.{Exists, exists_first, exists_later, exists_right}
 use Rattle.script_meaning.proofs.Payments.{AllPaid}
-use Rattle.script_meaning.proofs.JobPieces.{job_told, JobPiece, IsMild, IsOwnReason, quiet_closes}
+use Rattle.script_meaning.proofs.JobPieces.{job_told, JobPiece, IsMild, IsOwnReason}
 use Rattle.script_meaning.proofs.JobStories.{JobHolds}
 use Rattle.script_meaning.proofs.JobDebts.{parents_in, IsParent, IsUp, IsFor, AreFor, AllKnown, known_left, known_right, JobPaid, JobDebt, paid_then, paid_quiet, nobody_owes, needs_there}
-use Rattle.script_laws.proofs.BelowCancelled.{is_row, row_is, row_same, exists_parts, AllTakenBy, paid_by_last}
+use Rattle.script_laws.proofs.BelowCancelled.{chain_calm, is_row, row_is, row_same, exists_parts, AllTakenBy, paid_by_last}
 use Rattle.script_laws.proofs.EndedJobsTold.{parts_of, not_before}
 use Rattle.script_laws.proofs.DoneJobsEnded.{other_part}
 
@@ -92,14 +91,12 @@ below_mild r k t [] h = tt
 below_mild r k t (a ∷ acts) h = (one a h.0, below_mild r k t acts h.1)
   where
     by_reason : (q : ℕ) (reason : Reason) → IsParent reason → RaisesByReason r k q reason → TakesFailure r a t
-    by_reason q reasons.Request h x = absurd x
-    by_reason q reasons.Parent h x = absurd x
     by_reason q (reasons.Child c) h x = absurd h
     by_reason q (reasons.Own f) h x = absurd h
+    by_reason q other h x = absurd x
 
     one : (b : JobAct) → IsFor IsParent b → RaisesFailure r k b → TakesFailure r a t
     one (Cancel q reason) h x = by_reason q reason h x
-    one (Attach p q kind tag c) h x = absurd h
     one other h x = absurd h
 
 own_mild : (r k row : ℕ) (reason : Reason) (newly : Bool) → (newly ≡ true → RaisesByReason r k row reason → ⊥)
@@ -133,30 +130,13 @@ up_takes r k t (a ∷ acts) all h = (
 )
   where
     by_reason : (q : ℕ) (reason : Reason) → IsUp reason → RaisesByReason r k q reason → (q ≡ r) × IsChild reason
-    by_reason q reasons.Request h x = absurd x
-    by_reason q reasons.Parent h x = absurd x
     by_reason q (reasons.Child c) h x = (x, tt)
     by_reason q (reasons.Own f) h x = absurd h
+    by_reason q other h x = absurd x
 
     one : (b : JobAct) → IsFor IsUp b → RaisesFailure r k b → IsChildCancelOf r b
     one (Cancel q reason) h x = by_reason q reason h x
-    one (Attach p q kind tag c) h x = absurd h
     one other h x = absurd h
-
-chain_calm : (p : Program) (k r q row : ℕ) (g : List Told) → Chain (base_of p) row g → FailurePaid k r q g
-unfolding AllPaid
-chain_calm p k r q _ _ (Chain.stops row) = (tt, tt)
-chain_calm p k r q _ _ (Chain.root end closes c) = (
-  λ x. absurd x,
-  paid_quiet k (owes_failure r q) (RaisesFailure r k) (TakesFailure r) closes (quiet_closes _ _ closes c),
-)
-chain_calm p k r q row g (Chain.goes_up _ parent end closes rest _ n c up e) =
-    subst (FailurePaid k r q) (sym e) (
-      λ x. absurd x,
-      paid_then k (owes_failure r q) (RaisesFailure r k) (TakesFailure r) closes _
-          (paid_quiet k (owes_failure r q) (RaisesFailure r k) (TakesFailure r) closes (quiet_closes _ _ closes c))
-          (λ x. absurd x, (tt, chain_calm p k r q parent rest up)),
-    )
 
 failure_pieces : (p : Program) (jobs : List JobEntry) (r q k : ℕ) (g : List Told) → AllKnown (parents_in jobs) g → JobPiece p k g
     → FailurePaid k r q g
@@ -189,7 +169,10 @@ failure_pieces p jobs r q k g h (JobPiece.fails f up pass _ t e) =
       paid_then k (owes_failure r q) (RaisesFailure r k) (TakesFailure r) (map did t.below
           ++ on_jobs (PassedBelow k t.below) ∷ []) _ below rest,
     )
-failure_pieces p jobs r q k _ h (JobPiece.ends_body row v chain t) = (λ x. absurd x, chain_calm p k r q row chain t)
+failure_pieces p jobs r q k _ h (JobPiece.ends_body row v chain t) = (
+  λ x. absurd x,
+  chain_calm p k (owes_failure r q) (RaisesFailure r k) (TakesFailure r) (λ row end x. x) (λ row x. x) row chain t,
+)
 failure_pieces p jobs r q k _ h other = (λ x. absurd x, tt)
 
 -- ---- what takes it away
@@ -210,11 +193,11 @@ bears_lasts = record {
     new_bears false s n h = sym (ap is_cancelled n) ∙ h
 
 no_debt : (tree : Tree) (r q : ℕ) → (failed_at q (tree r) ≡ true → bears (tree q) ≡ true) → owes_failure r q tree ≡ false
-no_debt tree r q h = at (failed_at q (tree r)) (bears (tree q)) h
-  where
-    at : (a b : Bool) → (a ≡ true → b ≡ true) → (a && not b) ≡ false
-    at true b h = ap not (h refl)
-    at false b h = refl
+no_debt tree r q h = false_from_ne_true _ (λ k. let both = parts_of (failed_at q (tree r)) (bears (tree q)) k
+    in both_ways (bears (tree q)) both.1 (h both.0))
+
+third : (a b c : Bool) → (a && (b && not c)) ≡ true → c ≡ false
+third a b c h = (parts_of b c (and_parts a (b && not c) h).1).1
 
 failed_parent : (q : ℕ) (o : Option Job) → failed_at q o ≡ true → parent_of o ≡ Some q
 failed_parent q None h = cc
@@ -222,13 +205,7 @@ failed_parent q (Some j) h = row_is q j.parent (and_parts (is_row q j.parent) _ 
 
 failed_plain : (q : ℕ) (o : Option Job) → failed_at q o ≡ true → IsScope true o → ⊥
 failed_plain q None h s = s
-failed_plain q (Some j) h s = at (is_row q j.parent) (is_failure j.cause) j.kind.scoped h s
-  where
-    at : (a b c : Bool) → (a && (b && not c)) ≡ true → c ≡ true → ⊥
-    at true true true h e = cc
-    at true true false h e = cc
-    at true false c h e = cc
-    at false b c h e = cc
+failed_plain q (Some j) h s = both_ways j.kind.scoped (third (is_row q j.parent) (is_failure j.cause) j.kind.scoped h) s
 
 alive_ended : (o : Option Job) → IsAlive o → IsEnded o → ⊥
 alive_ended None a e = a
@@ -240,13 +217,10 @@ alive_bears (Some j) c n = at j.kind.supervisor j.state c n
   where
     at : (b : Bool) (s : JobState) → is_cancellable s ≡ false → (is_ended s ≡ true → ⊥) → ((b || is_cancelled s) ≡ true)
         × (is_ended s ≡ false)
-    at b New c n = cc
-    at b Active c n = cc
-    at b Completing c n = cc
-    at true Cancelling c n = (refl, refl)
-    at false Cancelling c n = (refl, refl)
+    at b Cancelling c n = (or_right b true refl, refl)
     at b Cancelled c n = absurd (n refl)
     at b Completed c n = absurd (n refl)
+    at b other c n = cc
 
 supervisor_bears : (o : Option Job) → IsSupervisor true o → bears o ≡ true
 supervisor_bears None s = absurd s
@@ -351,7 +325,6 @@ no_scope A B false m e = m
 tag_step : (shape : _) (tree : Tree) (who r : ℕ) (act : JobAct) (x y : Option Job) → RowStep shape tree who r act x y → TagFits r x
     → TagFits r y
 tag_step shape tree who r _ _ _ (RowStep.is_attached p kind tag cancelled m i) h = λ e. no_scope _ _ kind.scoped i e
-tag_step shape tree who r _ _ _ (RowStep.has_child c kind tag cancelled j none m) h = h
 tag_step shape tree who r _ _ _ other h = h
 
 tags_from : (shape : _) (tree : Tree) (es : List JobEntry) (r : ℕ) → LegalFrom shape tree es → TagFits r (tree r)
@@ -370,18 +343,7 @@ tag_fits shape history r l = tags_from shape start history r l (first_tag r (r =
 
 not_failure : (q : ℕ) (parent : Option ℕ) (cause : Cause) (b : Bool) → is_failure cause ≡ false
     → (is_row q parent && (is_failure cause && b)) ≡ true → ⊥
-not_failure q parent cause b f h = at (is_row q parent) (is_failure cause) f h
-  where
-    at : (x y : Bool) → y ≡ false → (x && (y && b)) ≡ true → ⊥
-    at true true f h = cc
-    at true false f h = cc
-    at false y f h = cc
-
-third : (a b c : Bool) → (a && (b && not c)) ≡ true → c ≡ false
-third true true false h = refl
-third true true true h = cc
-third true false c h = cc
-third false b c h = cc
+not_failure q parent cause b f h = both_ways (is_failure cause) f (and_parts (is_failure cause) b (and_parts (is_row q parent) _ h).1).0
 
 first_is_none : (b : Bool) → is_failure (first_cause b) ≡ false
 first_is_none true = refl
@@ -394,20 +356,12 @@ failure_raised : (shape : _) (tree : Tree) (who r q : ℕ) (act : JobAct) (x y :
     → TagFits r x → failed_at q x ≡ false → failed_at q y ≡ true → RaisesFailure r who act
 failure_raised shape tree who r q _ _ _ (RowStep.is_attached p kind tag cancelled m i) is fits f t =
     absurd (not_failure q (Some p) (first_cause cancelled) (not kind.scoped) (first_is_none cancelled) t)
-failure_raised shape tree who r q _ _ _ (RowStep.has_child c kind tag cancelled j none m) is fits f t =
-    absurd (both_ways (failed_at q (Some j)) f t)
-failure_raised shape tree who r q _ _ _ (RowStep.is_started j n) is fits f t = absurd (both_ways (failed_at q (Some j)) f t)
-failure_raised shape tree who r q _ _ _ (RowStep.body_ends v j m) is fits f t = absurd (both_ways (failed_at q (Some j)) f t)
-failure_raised shape tree who r q _ _ _ (RowStep.is_cancelled reasons.Request j m o) is fits f t =
-    absurd (not_failure q j.parent because.Request (not j.kind.scoped) refl t)
-failure_raised shape tree who r q _ _ _ (RowStep.is_cancelled reasons.Parent j m o) is fits f t =
-    absurd (not_failure q j.parent because.Request (not j.kind.scoped) refl t)
 failure_raised shape tree who r q _ _ _ (RowStep.is_cancelled (reasons.Child c) j m o) is fits f t = refl
 failure_raised shape tree who r q _ _ _ (RowStep.is_cancelled (reasons.Own g) j m o) is fits f t =
     (refl, fits (third (is_row q j.parent) true j.kind.scoped t) ∙ tag_is j (tree r) who is o.0)
-failure_raised shape tree who r q _ _ _ (RowStep.ends end j m) is fits f t = absurd (both_ways (failed_at q (Some j)) f t)
-failure_raised shape tree who r q _ _ _ (RowStep.is_told c j m p) is fits f t = absurd (both_ways (failed_at q (Some j)) f t)
-failure_raised shape tree who r q _ _ _ (RowStep.stays act x a b c d e) is fits f t = absurd (both_ways (failed_at q x) f t)
+failure_raised shape tree who r q _ _ _ (RowStep.is_cancelled other j m o) is fits f t =
+    absurd (not_failure q j.parent because.Request (not j.kind.scoped) refl t)
+failure_raised shape tree who r q act x y other is fits f t = absurd (both_ways (failed_at q x) f t)
 
 of_start : (q : ℕ) (b x : Bool) → (failed_at q (if b then Some root else None) && x) ≡ false
 of_start q true x = refl
@@ -434,13 +388,8 @@ failure_debt p jobs l r q = record {
 
 is_failed : (q : ℕ) (o : Option Job) → IsFailedChild q o → failed_at q o ≡ true
 is_failed q None h = absurd h
-is_failed q (Some j) h = at (is_row q j.parent) (is_failure j.cause) j.kind.scoped (row_same q j.parent h.0) h.1 h.2
-  where
-    at : (a b c : Bool) → a ≡ true → b ≡ true → c ≡ false → (a && (b && not c)) ≡ true
-    at true true false x y z = refl
-    at true true true x y z = cc
-    at true false c x y z = cc
-    at false b c x y z = cc
+is_failed q (Some j) h = and_from (is_row q j.parent) _ (row_same q j.parent h.0)
+    (and_from (is_failure j.cause) _ h.1 (not_from_false j.kind.scoped h.2))
 
 borne : (o : Option Job) → bears o ≡ true → BearsFailures o
 borne None h = cc

@@ -19,7 +19,7 @@ use Rattle.note_book.specs.declared.book.Item.{Item}
 use Rattle.note_book.specs.declared.book.Item.TheVariants as item
 use Rattle.note_book.specs.Items.{channel_acts_in}
 use Rattle.note_book.proofs.Appended.{channel_acts_in-append}
-use Rattle.call_meaning.specs.Telling.{Told, note, on_channels, on_jobs, items_in}
+use Rattle.call_meaning.specs.Telling.{Told, note, items_in}
 use Rattle.call_meaning.specs.Facts.{IsWithdrawnOrVoided}
 use Rattle.call_meaning.specs.ChannelCalls.{is_given_up}
 use Rattle.call_meaning.specs.Stories.{Moment, beginning, IsTrue, with_told, story_of}
@@ -100,9 +100,7 @@ module _ (shape : Shape) (k : ℕ) (now : Moment) (l : Legal shape now.channels)
       (λ f. absurd (not_waitless i w outcome q f))
       (λ later f. wider w (replay now.channels) i later outcome
       (gives_up (with_told (note i) items) t.0 o o' more h t.2 later rest w outcome f g))
-  gives_up items earlier _ _ _ (WaitsTold.other o o' (on_channels fact) more q h) t before rest w outcome e g =
-      gives_up items t.0 o o' more h t.2 before rest w outcome e g
-  gives_up items earlier _ _ _ (WaitsTold.other o o' (on_jobs fact) more q h) t before rest w outcome e g =
+  gives_up items earlier _ _ _ (WaitsTold.other o o' looks more q h) t before rest w outcome e g =
       gives_up items t.0 o o' more h t.2 before rest w outcome e g
   gives_up items earlier _ _ _ (WaitsTold.begins u o a more q h) t before rest w outcome e g =
       first_or_later (Given w outcome) _ (items_in more) before rest (settle_note w outcome) e

@@ -20,4 +20,5 @@ pub mod DoneReceivedOnce
 pub mod EndsToSee
 pub mod PlacesGiven
 pub mod NotSpent
+pub mod MovesFrom
 pub mod NobodyGoesOn

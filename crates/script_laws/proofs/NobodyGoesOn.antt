@@ -1,7 +1,7 @@
 -- In a run that came to rest no coroutine has a move that is so.
-use Rattle.std.specs.Prelude.{◌≡◌, ℕ, ◌==◌, ◌<◌, Bool, true, false, List, [], ◌∷◌, ◌++◌, Option, Some, None, if◌then◌else◌}
-use Rattle.std.proofs.Common.{arith, refl, ap, sym, ◌∙◌, subst, append_assoc}
-use Rattle.std.proofs.lemmas.Bool.Decides.{nat_tests}
+use Rattle.std.specs.Prelude.{◌≡◌, ℕ, ◌==◌, ◌<◌, true, false, List, [], ◌∷◌, ◌++◌, Option, Some, None, if◌then◌else◌}
+use Rattle.std.proofs.Common.{refl, ap, sym, ◌∙◌, subst, append_assoc}
+use Rattle.std.proofs.lemmas.Bool.{eq-eqb, cond-true}
 use Rattle.std.proofs.lemmas.List.{append-nil, append_cancel_left}
 use mathlib.Core.List.{IsPrefix}
 use Rattle.channel_model.specs.declared.acts.Act.{Act}
@@ -31,13 +31,14 @@ use Rattle.call_meaning.specs.Stories.{Moment, IsTrue}
 use Rattle.script_grammar.specs.Programs.{Program}
 use Rattle.script_grammar.specs.Tags.{coroutine_count}
 use Rattle.script_meaning.specs.declared.stage.Stage.{Stage}
-use Rattle.script_meaning.specs.declared.stage.Stage.TheVariants.{Fresh, Running, Waiting, SeesJob, Unwinding, Leaving, SeesScope}
+use Rattle.script_meaning.specs.declared.stage.Stage.TheVariants.{Fresh, Waiting, Leaving}
 use Rattle.script_meaning.specs.Shapes.{floor_shape}
 use Rattle.script_meaning.specs.Configs.{Config, innermost}
 use Rattle.script_meaning.specs.Books.{BooksOf, book_at, story}
 use Rattle.script_meaning.specs.Moves.{Move}
 use Rattle.script_meaning.specs.Idle.{IsNotStarted, IsLeft, IsIdle}
 use Rattle.script_laws.specs.GoingOn.{with_acts, GoesOn}
+use Rattle.script_laws.proofs.MovesFrom.{begins_at, stage_of, stage_is}
 use Rattle.channel_model.proofs.Resolutions.{open_of}
 
 -- ---- a moment behind which k alone made entries, and to which it made none, is the first one
@@ -46,14 +47,11 @@ none_made : (k : ℕ) (acts : List Act) (es rest : List Entry) → es ++ rest �
 unfolding acts_of
 none_made k acts [] rest e none = refl
 none_made k [] (x ∷ es) rest e none = cc
-none_made k (a ∷ acts) (x ∷ es) rest e none = absurd (by_test (x.who == k) by_k none)
-  where
-    by_k : (x.who == k) ≡ true
-    by_k = let own : x ≡ record { who = k; act = a } = cc in let is : x.who ≡ k = ap (λ (y : Entry). y.who) own in grind (arith, nat_tests)
-
-    by_test : (b : Bool) → b ≡ true → (if b then x.act ∷ acts_of k es else acts_of k es) ≡ [] → ⊥
-    by_test true t h = cc
-    by_test false t h = cc
+none_made k (a ∷ acts) (x ∷ es) rest e none =
+    let own : x ≡ record { who = k; act = a } = cc in
+    let same : (x.who == k) ≡ true = eq-eqb x.who k (ap (λ (y : Entry). y.who) own) in
+    let some : x.act ∷ acts_of k es ≡ [] = sym (cond-true (x.who == k) (x.act ∷ acts_of k es) (acts_of k es) same) ∙ none in
+    cc
 
 same_channels : (k : ℕ) (now at : List Entry) (acts : List Act) → IsPrefix now at → IsPrefix at (now ++ entries_by k acts)
     → acts_of k at ≡ acts_of k now → at ≡ now
@@ -67,15 +65,11 @@ no_job_act : (k : ℕ) (acts : List JobAct) (es rest : List JobEntry) → es ++ 
 unfolding job_acts_of
 no_job_act k acts [] rest e none = refl
 no_job_act k [] (x ∷ es) rest e none = cc
-no_job_act k (a ∷ acts) (x ∷ es) rest e none = absurd (by_test (x.who == k) by_k none)
-  where
-    by_k : (x.who == k) ≡ true
-    by_k = let own : x ≡ record { who = k; act = a } = cc in let is : x.who ≡ k = ap (λ (y : JobEntry). y.who) own
-        in grind (arith, nat_tests)
-
-    by_test : (b : Bool) → b ≡ true → (if b then x.act ∷ job_acts_of k es else job_acts_of k es) ≡ [] → ⊥
-    by_test true t h = cc
-    by_test false t h = cc
+no_job_act k (a ∷ acts) (x ∷ es) rest e none =
+    let own : x ≡ record { who = k; act = a } = cc in
+    let same : (x.who == k) ≡ true = eq-eqb x.who k (ap (λ (y : JobEntry). y.who) own) in
+    let some : x.act ∷ job_acts_of k es ≡ [] = sym (cond-true (x.who == k) (x.act ∷ job_acts_of k es) (job_acts_of k es) same) ∙ none in
+    cc
 
 same_jobs : (k : ℕ) (now at : List JobEntry) (acts : List JobAct) → IsPrefix now at → IsPrefix at (now ++ job_entries_by k acts)
     → job_acts_of k at ≡ job_acts_of k now → at ≡ now
@@ -135,7 +129,6 @@ module _ (p : Program) (k : ℕ) (book : List Item) (now : Moment) (own : acts_o
         (first_now (on_jobs (MayRun k)) [] t)
     refused _ _ _ left (Move.never_runs x s) t l =
         not_started_cancelling (replay_jobs now.jobs k) (left_at x left Fresh s).0 (first_now (saw k) [] t)
-    refused _ _ _ left (Move.calls x y i group a at c f) t l = left_at x left Running at.stage
     refused _ _ _ left (Move.resumes x y w i outcome a s at m f) t l =
         open_of k ((replay now.channels).waits w) (left_at x left (Waiting w) s).0.open_now
         (first_now (on_channels (IsResolved w)) (on_jobs (MayRun (innermost k x)) ∷ made (Settle w outcome) ∷ []) t)
@@ -143,32 +136,10 @@ module _ (p : Program) (k : ℕ) (book : List Item) (now : Moment) (own : acts_o
         open_not_back k ((replay now.channels).waits w) (left_at x left (Waiting w) s).0.open_now
         (first_now (on_channels (TakenBack w)) (made (Settle w settled.Cancelled) ∷ []) t)
     refused _ _ _ left (Move.gives_up x w group s g) t l = (left_at x left (Waiting w) s).1 (first_now (saw (innermost k x)) group t)
-    refused _ _ _ left (Move.sees_job x y job row end s at n f) t l = left_at x left SeesJob s
-    refused _ _ _ left (Move.closes x c group at g) t l = left_at x left Running at.stage
-    refused _ _ _ left (Move.cancels_channel x c group at g) t l = left_at x left Running at.stage
-    refused _ _ _ left (Move.yields x at) t l = left_at x left Running at.stage
-    refused _ _ _ left (Move.stops_at_yield x at) t l = left_at x left Running at.stage
-    refused _ _ _ left (Move.stops_at_join x job at) t l = left_at x left Running at.stage
-    refused _ _ _ left (Move.launches x block how job new at) t l = left_at x left Running at.stage
-    refused _ _ _ left (Move.launch_refused x block how job group at g) t l = left_at x left Running at.stage
-    refused _ _ _ left (Move.enters x supervisor row new at) t l = left_at x left Running at.stage
-    refused _ _ _ left (Move.enter_refused x supervisor group at g) t l = left_at x left Running at.stage
-    refused _ _ _ left (Move.starts x job row group at n g) t l = left_at x left Running at.stage
-    refused _ _ _ left (Move.cancels x job row newly group at n g) t l = left_at x left Running at.stage
-    refused _ _ _ left (Move.fails x v at) t l = left_at x left Running at.stage
-    refused _ _ _ left (Move.results x o at) t l = left_at x left Running at.stage
-    refused _ _ _ left (Move.repeats x n at) t l = left_at x left Running at.stage
-    refused _ _ _ left (Move.turns_again x head n es at e) t l = left_at x left Running at.stage
-    refused _ _ _ left (Move.turns_no_more x head es at e) t l = left_at x left Running at.stage
-    refused _ _ _ left (Move.receives_again x head es at e) t l = left_at x left Running at.stage
-    refused _ _ _ left (Move.ends_scope x y s end group all a at e b c f is) t l = left_at x left Running at.stage
     refused _ _ _ left (Move.scope_ended x w n v s) t l =
         open_not_settled k (settled.Closed n v) ((replay now.channels).waits w) (left_at x left (Leaving w) s).open_now
         (Legal-last (floor_shape p) now.channels (record { who = k; act = Settle w (settled.Closed n v) }) l).1
-    refused _ _ _ left (Move.sees_scope x y s end e is f) t l = left_at x left SeesScope e
-    refused _ _ _ left (Move.breaks_scope x y s failure break group all a e is b c f q) t l = left_at x left (Unwinding failure) e
-    refused _ _ _ left (Move.breaks x failure group s e b) t l = left_at x left (Unwinding failure) s
-    refused _ _ _ left (Move.ends x group s e b) t l = left_at x left Running s
+    refused x told y left other t l = left_at x left (stage_of (begins_at other)) (stage_is (begins_at other))
 
 pub nobody_goes : (p : Program) (books : List (List Item)) (channels : List Entry) (jobs : List JobEntry)
     (of : BooksOf p books channels jobs) (root : Option End) → IsIdle p books channels jobs of root → (k : ℕ) → k < coroutine_count p

@@ -1,10 +1,9 @@
 -- No coroutine of a run finds a done channel without a place while it is open: it has one place, only who attached the Job receives there,
 -- and who had the place was told that the channel is closed before it asks again.
-use Rattle.std.specs.Prelude.{◌≡◌, ℕ, suc, ◌+◌, ◌-◌, ◌<◌, ◌≤◌, ◌==◌, nat_le, Bool, true, false, not, ◌||◌, ◌&&◌, List, [], ◌∷◌, ◌++◌, length, replicate, Option, Some, None, is_some, slice_index_or, if◌then◌else◌, MatchBool, refl}
+use Rattle.std.specs.Prelude.{◌≡◌, ℕ, suc, ◌+◌, ◌-◌, ◌<◌, ◌≤◌, ◌==◌, ◌⊎◌, nat_le, Bool, true, false, not, ◌||◌, ◌&&◌, List, [], ◌∷◌, ◌++◌, length, replicate, Option, Some, None, is_some, slice_index_or, MatchBool, refl}
 use Rattle.std.specs.List.{list_any, list_all}
 use Rattle.std.proofs.Common.{sym, ap, ◌∙◌, subst, ⊎_elim, append_assoc, arith}
-use Rattle.std.proofs.lemmas.Bool.{eqb-true, or_from, or_parts, or_left, and_from}
-use Rattle.std.proofs.lemmas.Bool.Decides.{nat_tests}
+use Rattle.std.proofs.lemmas.Bool.{eqb-true, leb-true, false_from_ne_true, or_from, or_parts, or_left, or_right, and_from, and_parts}
 use Rattle.std.proofs.lemmas.List.{length-map, get_or-replicate, append-nil}
 use Rattle.std.proofs.lemmas.List.Folds.{list_any-append}
 use mathlib.Core.List.{IsPrefix}
@@ -21,7 +20,7 @@ use Rattle.channel_model.specs.Histories.{replay, acts_of, Legal}
 use Rattle.channel_model.proofs.Histories.{acts_of-append, LegalFrom-parts}
 use Rattle.channel_model.specs.Channels.{start as start_channels}
 use Rattle.job_model.specs.declared.acts.JobAct.{JobAct}
-use Rattle.job_model.specs.declared.acts.JobAct.TheVariants.{Attach, Start}
+use Rattle.job_model.specs.declared.acts.JobAct.TheVariants.{Attach}
 use Rattle.job_model.specs.declared.acts.JobEntry.{JobEntry}
 use Rattle.job_model.specs.Acts.{attaches}
 use Rattle.job_model.specs.Trees.{Shape as JobShape, Job, Tree, start}
@@ -52,7 +51,7 @@ use Rattle.script_meaning.proofs.BooksGoOn.{items_in-append}
 use Rattle.script_meaning.proofs.CompletedJobs.{ends_so, completed_in}
 use Rattle.script_meaning.proofs.TagsReached.{launched_in_run}
 use Rattle.script_laws.specs.Owners.{AllNoted}
-use Rattle.script_laws.proofs.RowsEntered.{enters_row, scope_rows}
+use Rattle.script_laws.proofs.RowsEntered.{enters_row, scope_rows, first_or_later}
 use Rattle.script_laws.proofs.DoneAsked.{admits_none, item_asks}
 use Rattle.script_laws.proofs.DonePlacesAsked.{places_on, ends_closed, placed_in, closed_in, attached_in, attached_then, not_asked, MoveAsks, move_asks}
 use Rattle.script_laws.proofs.DoneReceivedOnce.{begins_ask, AreApart, NoteAsked, AllAsked, ReachAsks, reach_asks}
@@ -92,11 +91,7 @@ call_plain base c d _ _ le (PlainCall.at_once _ call a (AtOnce.takes _ v q admit
     quiet_plain base c (items_in admits) le (admits_none base d admits h)
 call_plain base c d _ _ le (PlainCall.refused _ t a (Refused.receive _ u)) = refl
 call_plain base c d _ _ le (PlainCall.no_place _ all is) = ap (plain_in c) is
-call_plain base c d _ _ le (PlainCall.awaits _ q) = by_test (d == c)
-  where
-    by_test : (b : Bool) → ((not b || true) && true) ≡ true
-    by_test true = refl
-    by_test false = refl
+call_plain base c d _ _ le (PlainCall.awaits _ q) = and_from _ true (or_right (not (d == c)) true refl) refl
 
 move_plain : (p : Program) (k : ℕ) (x : Config) (group : List Told) (y : Config) (c : ℕ) → base_of p ≤ c → MoveAsks p k x group y
     → plain_in c group ≡ true
@@ -125,51 +120,30 @@ row_within shape tree who r (Attach p q kind tag cancelled) le n e = by_kind kin
     by_kind : (s : Bool) → MatchBool s ((tag ≡ who) × (shape.coroutines ≤ q) × (q < shape.rows)) (q ≡ tag) → r ≡ q → r < shape.rows
     by_kind true m f = let lt = m.2 in omega (arith, lt, f)
     by_kind false m f = omega (arith, low, le, m, f)
-row_within shape tree who r (Start q) le n e = cc
 row_within shape tree who r other le n e = cc
 
 rows_within : (shape : JobShape) (tree : Tree) (es : List JobEntry) (who r : ℕ) → shape.coroutines ≤ shape.rows → LegalFrom shape tree es
     → list_any (attaches r) (job_acts_of who es) ≡ true → r < shape.rows
 unfolding LegalFrom job_acts_of
 rows_within shape tree [] who r le l e = cc
-rows_within shape tree (x ∷ es) who r le l e = by_who (x.who == who) (λ f. rows_within shape (after tree x.who x.act) es who r le l.1 f) e
-  where
-    by_act : (b : Bool) → attaches r x.act ≡ b → (list_any (attaches r) (job_acts_of who es) ≡ true → r < shape.rows)
-        → (b || list_any (attaches r) (job_acts_of who es)) ≡ true → r < shape.rows
-    by_act true f more e = row_within shape tree x.who r x.act le l.0 f
-    by_act false f more e = more e
-
-    by_who : (b : Bool) → (list_any (attaches r) (job_acts_of who es) ≡ true → r < shape.rows)
-        → list_any (attaches r) (if b then x.act ∷ job_acts_of who es else job_acts_of who es) ≡ true → r < shape.rows
-    by_who true more e = by_act (attaches r x.act) refl more e
-    by_who false more e = more e
+rows_within shape tree (x ∷ es) who r le l e =
+    ⊎_elim (λ k. row_within shape tree x.who r x.act le l.0 k.1) (rows_within shape (after tree x.who x.act) es who r le l.1)
+    (first_or_later (attaches r) who x es e)
 
 -- once it is attached nobody attaches it
 is_fresh : (shape : JobShape) (tree : Tree) (who r : ℕ) (act : JobAct) → Needs shape tree who act → attaches r act ≡ true → tree r ≡ None
 is_fresh shape tree who r (Attach p q kind tag cancelled) n e = ap tree (eqb-true r q e) ∙ n.0
-is_fresh shape tree who r (Start q) n e = cc
 is_fresh shape tree who r other n e = cc
 
 none_later : (shape : JobShape) (tree : Tree) (es : List JobEntry) (who r : ℕ) → LegalFrom shape tree es → is_some (tree r) ≡ true
     → list_any (attaches r) (job_acts_of who es) ≡ true → ⊥
 unfolding LegalFrom job_acts_of
 none_later shape tree [] who r l h e = cc
-none_later shape tree (x ∷ es) who r l h e = by_who (x.who == who)
-    (λ f. none_later shape (after tree x.who x.act) es who r l.1
-    (act_keeps (λ o. is_some o ≡ true) attached_lasts shape tree x.who x.act r l.0 h) f) e
-  where
-    not_fresh : attaches r x.act ≡ true → ⊥
-    not_fresh f = let none = is_fresh shape tree x.who r x.act l.0 f in let both : false ≡ true = sym (ap is_some none) ∙ h in cc
-
-    by_act : (b : Bool) → attaches r x.act ≡ b → (list_any (attaches r) (job_acts_of who es) ≡ true → ⊥)
-        → (b || list_any (attaches r) (job_acts_of who es)) ≡ true → ⊥
-    by_act true f more e = not_fresh f
-    by_act false f more e = more e
-
-    by_who : (b : Bool) → (list_any (attaches r) (job_acts_of who es) ≡ true → ⊥)
-        → list_any (attaches r) (if b then x.act ∷ job_acts_of who es else job_acts_of who es) ≡ true → ⊥
-    by_who true more e = by_act (attaches r x.act) refl more e
-    by_who false more e = more e
+none_later shape tree (x ∷ es) who r l h e =
+    ⊎_elim (λ k. let both : false ≡ true = sym (ap is_some (is_fresh shape tree x.who r x.act l.0 k.1)) ∙ h in cc)
+    (none_later shape (after tree x.who x.act) es who r l.1
+    (act_keeps (λ o. is_some o ≡ true) attached_lasts shape tree x.who x.act r l.0 h))
+    (first_or_later (attaches r) who x es e)
 
 now_attached : (shape : JobShape) (tree : Tree) (who q : ℕ) (act : JobAct) (x y : Option Job) → RowStep shape tree who q act x y
     → attaches q act ≡ true → is_some y ≡ true
@@ -181,34 +155,18 @@ attached_once : (shape : JobShape) (tree : Tree) (es : List JobEntry) (u k r : �
     → list_any (attaches r) (job_acts_of u es) ≡ true → list_any (attaches r) (job_acts_of k es) ≡ true → u ≡ k
 unfolding LegalFrom job_acts_of
 attached_once shape tree [] u k r l e f = cc
-attached_once shape tree (x ∷ es) u k r l e f = by_act (attaches r x.act) refl
-    (λ a b. attached_once shape (after tree x.who x.act) es u k r l.1 a b) (λ w h. none_later shape (after tree x.who x.act) es w r l.1 h)
+attached_once shape tree (x ∷ es) u k r l e f =
+    ⊎_elim
+    (λ a. ⊎_elim (λ b. sym a.0 ∙ b.0) (λ b. absurd (none_later shape (after tree x.who x.act) es k r l.1 (there a.1) b)) of_k)
+    (λ a. ⊎_elim (λ b. absurd (none_later shape (after tree x.who x.act) es u r l.1 (there b.1) a))
+    (attached_once shape (after tree x.who x.act) es u k r l.1 a) of_k)
+    (first_or_later (attaches r) u x es e)
   where
-    later : (w : ℕ) → attaches r x.act ≡ false → list_any (attaches r) (if x.who == w then x.act ∷ job_acts_of w es else job_acts_of w es) ≡
-        true → list_any (attaches r) (job_acts_of w es) ≡ true
-    later w g h = by_who (x.who == w) h
-      where
-        by_who : (b : Bool) → list_any (attaches r) (if b then x.act ∷ job_acts_of w es else job_acts_of w es) ≡ true
-            → list_any (attaches r) (job_acts_of w es) ≡ true
-        by_who true i = sym (ap (λ b. b || list_any (attaches r) (job_acts_of w es)) g) ∙ i
-        by_who false i = i
+    of_k : ((x.who ≡ k) × (attaches r x.act ≡ true)) ⊎ (list_any (attaches r) (job_acts_of k es) ≡ true)
+    of_k = first_or_later (attaches r) k x es f
 
-    here : (w : ℕ) → (list_any (attaches r) (job_acts_of w es) ≡ true → ⊥)
-        → list_any (attaches r) (if x.who == w then x.act ∷ job_acts_of w es else job_acts_of w es) ≡ true → x.who ≡ w
-    here w none h = by_who (x.who == w) refl h
-      where
-        by_who : (b : Bool) → (x.who == w) ≡ b → list_any (attaches r) (if b then x.act ∷ job_acts_of w es else job_acts_of w es) ≡ true
-            → x.who ≡ w
-        by_who true g i = eqb-true x.who w g
-        by_who false g i = absurd (none i)
-
-    by_act : (b : Bool) → attaches r x.act ≡ b → (list_any (attaches r) (job_acts_of u es) ≡ true
-        → list_any (attaches r) (job_acts_of k es) ≡ true → u ≡ k)
-        → ((w : ℕ) → is_some (after tree x.who x.act r) ≡ true → list_any (attaches r) (job_acts_of w es) ≡ true → ⊥) → u ≡ k
-    by_act true g more none =
-        let there = now_attached shape tree x.who r x.act (tree r) (after tree x.who x.act r) (row_step shape tree x.who x.act r l.0) g in
-        sym (here u (none u there) e) ∙ here k (none k there) f
-    by_act false g more none = more (later u g e) (later k g f)
+    there : attaches r x.act ≡ true → is_some (after tree x.who x.act r) ≡ true
+    there = now_attached shape tree x.who r x.act (tree r) (after tree x.who x.act r) (row_step shape tree x.who x.act r l.0)
 
 -- ---- a done channel has one place
 
@@ -252,12 +210,7 @@ any_longer test u xs ys longer e =
 
 all_left : (test : Act → Bool) (xs ys : List Act) → list_all test (xs ++ ys) ≡ true → list_all test xs ≡ true
 all_left test [] ys h = refl
-all_left test (x ∷ xs) ys h = by_test (test x) refl h (all_left test xs ys)
-  where
-    by_test : (b : Bool) → test x ≡ b → (b && list_all test (xs ++ ys)) ≡ true → (list_all test (xs ++ ys) ≡ true → list_all test xs ≡ true)
-        → (test x && list_all test xs) ≡ true
-    by_test true e h more = and_from (test x) (list_all test xs) e (more h)
-    by_test false e h more = cc
+all_left test (x ∷ xs) ys h = let both = and_parts (test x) _ h in and_from (test x) (list_all test xs) both.0 (all_left test xs ys both.1)
 
 all_shorter : (test : Act → Bool) (u : ℕ) (xs ys : List Entry) → IsPrefix xs ys → list_all test (acts_of u ys) ≡ true
     → list_all test (acts_of u xs) ≡ true
@@ -343,7 +296,8 @@ not_spent_note : (p : Program) (c : ChannelFloor) (j : Floor) (g : Frame) → Is
     → LegalJobs (job_shape p) j.seen → (on : StandsOn p c j g) → AllNoted p c j → (seen rest : List Told) → on.runs.told ≡ seen ++ rest
     → (earlier at : Moment) (n : ChannelNote) → IsSo (story p g.tag (seen_by c j)) (items_in seen) earlier (note (item.Channel n)) at
     → NoteAsked (base_of p) seen n → is_channel_refusal (base_of p) n ≡ false
-not_spent_note p c j g ok legal jobs on noted seen rest parts earlier at (of_channel.Spent d) so asked = by_test (nat_le (base_of p) d) refl
+not_spent_note p c j g ok legal jobs on noted seen rest parts earlier at (of_channel.Spent d) so asked =
+    false_from_ne_true (nat_le (base_of p) d) (λ e. let le = leb-true (base_of p) d e in at_row (d - base_of p) (omega (arith, le)))
   where
     at_row : (row : ℕ) → d ≡ base_of p + row → ⊥
     at_row row e =
@@ -351,12 +305,6 @@ not_spent_note p c j g ok legal jobs on noted seen rest parts earlier at (of_cha
         spent_never p c j g ok legal jobs on noted seen rest parts at.channels so.not_after.channels so.channel_acts row
         (subst (λ n. IsSpentNow (floor_shape p) n (replay at.channels)) e so.holds) own.0
         (subst (λ n. placed_in n seen ≡ true → closed_in n seen ≡ true) e own.1)
-
-    by_test : (b : Bool) → nat_le (base_of p) d ≡ b → b ≡ false
-    by_test true e = let le : base_of p ≤ d = grind (arith, nat_tests) in let row : d ≡ base_of p + (d - base_of p) = omega (arith, le)
-        in absurd (at_row (d - base_of p) row)
-    by_test false e = refl
-not_spent_note p c j g ok legal jobs on noted seen rest parts earlier at (of_channel.Made act) so asked = refl
 not_spent_note p c j g ok legal jobs on noted seen rest parts earlier at other so asked = refl
 
 unspent : (p : Program) (c : ChannelFloor) (j : Floor) (g : Frame) → IsProgram p → Legal (floor_shape p) c.seen
@@ -371,18 +319,9 @@ unspent p c j g ok legal jobs on noted seen (note (item.Channel n) ∷ told) par
     (unspent p c j g ok legal jobs on noted (seen ++ note (item.Channel n) ∷ []) told (parts
     ∙ sym (append_assoc seen (note (item.Channel n) ∷ []) told)) h.0
     (subst (λ l. IsTrue (story p g.tag (seen_by c j)) l h.0 told) (push_items seen (note (item.Channel n))) h.2) asked.1)
-unspent p c j g ok legal jobs on noted seen (note (item.Job n) ∷ told) parts earlier h asked =
-    unspent p c j g ok legal jobs on noted (seen ++ note (item.Job n) ∷ []) told (parts
-    ∙ sym (append_assoc seen (note (item.Job n) ∷ []) told)) h.0
-    (subst (λ l. IsTrue (story p g.tag (seen_by c j)) l h.0 told) (push_items seen (note (item.Job n))) h.2) asked.1
-unspent p c j g ok legal jobs on noted seen (on_channels fact ∷ told) parts earlier h asked =
-    unspent p c j g ok legal jobs on noted (seen ++ on_channels fact ∷ []) told (parts
-    ∙ sym (append_assoc seen (on_channels fact ∷ []) told)) h.0
-    (subst (λ l. IsTrue (story p g.tag (seen_by c j)) l h.0 told) (push_items seen (on_channels fact)) h.2) asked.1
-unspent p c j g ok legal jobs on noted seen (on_jobs fact ∷ told) parts earlier h asked =
-    unspent p c j g ok legal jobs on noted (seen ++ on_jobs fact ∷ []) told (parts
-    ∙ sym (append_assoc seen (on_jobs fact ∷ []) told)) h.0
-    (subst (λ l. IsTrue (story p g.tag (seen_by c j)) l h.0 told) (push_items seen (on_jobs fact)) h.2) asked.1
+unspent p c j g ok legal jobs on noted seen (other ∷ told) parts earlier h asked =
+    unspent p c j g ok legal jobs on noted (seen ++ other ∷ []) told (parts ∙ sym (append_assoc seen (other ∷ []) told)) h.0
+    (subst (λ l. IsTrue (story p g.tag (seen_by c j)) l h.0 told) (push_items seen other) h.2) asked.1
 
 nothing_seen : (p : Program) (c : ChannelFloor) (j : Floor) (g : Frame) (told : List Told)
     → IsTrue (story p g.tag (seen_by c j)) [] beginning told → IsTrue (story p g.tag (seen_by c j)) (items_in []) beginning told

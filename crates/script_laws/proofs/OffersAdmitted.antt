@@ -1,16 +1,15 @@
 -- At the end of a run no held offer has room.
 use Rattle.std.proofs.lemmas.List.{append-nil}
-use Rattle.std.proofs.Common.{◌≡◌, ℕ, ◌<◌, ◌≤◌, arith, Bool, true, false, not, ◌&&◌, List, [], ◌∷◌, ◌++◌, refl, ap, sym, ◌∙◌, subst, ⊎_elim, append_assoc}
-use Rattle.std.specs.Prelude.{◌==◌, ◌+◌, ◌||◌, nat_lt, is_some}
+use Rattle.std.proofs.Common.{◌≡◌, ℕ, ◌<◌, ◌≤◌, arith, Bool, true, false, ◌&&◌, List, [], ◌∷◌, ◌++◌, refl, ap, sym, ◌∙◌, subst, ⊎_elim, append_assoc}
+use Rattle.std.specs.Prelude.{◌==◌, ◌+◌, ◌||◌, is_some}
 use Rattle.std.specs.List.{list_any}
-use Rattle.std.proofs.lemmas.Bool.{eqb-true, both_ways, and_from, and_right, or_right, and_left}
-use Rattle.std.proofs.lemmas.Bool.Decides.{nat_tests}
+use Rattle.std.proofs.lemmas.Bool.{eqb-true, ltb-true, lt-ltb, eq-eqb, both_ways, false_from_ne_true, and_from, and_right, or_left, or_right, or_cases, and_left}
 use Rattle.channel_model.specs.declared.acts.Act.{Act}
 use Rattle.channel_model.specs.declared.acts.Act.TheVariants.{Offer, Take, Drain}
 use Rattle.channel_model.specs.declared.acts.Entry.{Entry}
 use Rattle.channel_model.specs.declared.acts.Kind.{Kind}
 use Rattle.channel_model.specs.declared.standing.Standing.{Standing}
-use Rattle.channel_model.specs.Channels.{Shape, State, Channel, start, kind_at, is_full}
+use Rattle.channel_model.specs.Channels.{Shape, State, Channel, start, kind_at}
 use Rattle.channel_model.specs.Effects.{after}
 use Rattle.channel_model.specs.Needs.{Needs}
 use Rattle.channel_model.specs.Histories.{replay, Legal}
@@ -29,7 +28,7 @@ use Rattle.script_meaning.proofs.Payments.{act_list, AllSo}
 use Rattle.script_meaning.proofs.ActsFollowed.{IsTold, HasAdmits, Follows, call_told}
 use Rattle.script_meaning.proofs.ChannelStories.{who_did, deed, CallHolds, CallsSo, same_state}
 use Rattle.script_laws.proofs.ChannelDebts.{CallDebt, BehindOf, CallPaidAt, by_fact, nobody_owes, needs_there, legal_before}
-use Rattle.script_laws.proofs.ClosedChannels.{AllBefore}
+use Rattle.script_laws.proofs.ClosedChannels.{AllBefore, or_more}
 use Rattle.script_grammar.proofs.Truths.{both_true}
 use Rattle.script_laws.proofs.QueuesFit.{all_placed}
 
@@ -113,35 +112,21 @@ mark_at shape k history c done later (y ∷ ys) so x =
 
 -- ---- what a lower mark says less
 
+lower_owes : (m q : ℕ) (kind : Kind) (n : ℕ) (os : List Standing) → q < m → owes_admission_below kind (q + 1) n os ≡ true
+    → owes_admission_below kind m n os ≡ true
+lower_owes m q kind n [] h e = cc
+lower_owes m q kind n (o ∷ os) h e = or_more _ _ _ _ e
+    (λ k. let p = both_true _ _ k in let r = both_true _ _ p.1 in let low = ltb-true o.place (q + 1) r.0
+    in and_from _ _ p.0 (and_from _ _ (lt-ltb o.place m (omega arith)) r.1)) (lower_owes m q kind (n + 1) os h)
+
 lower_mark : (m q : ℕ) (kind : Kind) (n : ℕ) (os : List Standing) → q < m → owes_admission_below kind m n os ≡ false
     → owes_admission_below kind (q + 1) n os ≡ false
-lower_mark m q kind n [] h e = refl
-lower_mark m q kind n (o ∷ os) h e = at (is_some o.holder) (nat_lt o.place m) (nat_lt o.place (q + 1)) (is_full kind n)
-    (owes_admission_below kind m (n + 1) os) (owes_admission_below kind (q + 1) (n + 1) os) (λ t. grind (arith, nat_tests))
-    (λ t. lower_mark m q kind (n + 1) os h t) e
-  where
-    at : (a b b' f x y : Bool) → (b' ≡ true → b ≡ true) → (x ≡ false → y ≡ false) → ((a && (b && not f)) || x) ≡ false
-        → ((a && (b' && not f)) || y) ≡ false
-    at false b b' f x y i j h = j h
-    at true true b' true x y i j h = last b' true y (j h)
-      where
-        last : (b f y : Bool) → y ≡ false → ((b && not true) || y) ≡ false
-        last true f y h = h
-        last false f y h = h
-    at true true b' false x y i j h = cc
-    at true false true f x y i j h = absurd (both_ways false refl (i refl))
-    at true false false f x y i j h = j h
+lower_mark m q kind n os h e = false_from_ne_true _ (λ k. both_ways _ e (lower_owes m q kind n os h k))
 
 pub held_before : (q n : ℕ) (os : List Standing) → AllBefore n os → list_any (stands_held q) os ≡ true → q < n
-unfolding AllBefore
 held_before q n [] h e = cc
-held_before q n (o ∷ os) h e = at (o.place == q) (is_some o.holder) refl (λ t. held_before q n os h.1 t) e
-  where
-    at : (b s : Bool) → (o.place == q) ≡ b → (list_any (stands_held q) os ≡ true → q < n) → ((b && s) || list_any (stands_held q) os) ≡ true
-        → q < n
-    at true true e f t = subst (λ u. u < n) (eqb-true o.place q e) h.0
-    at true false e f t = f t
-    at false s e f t = f t
+held_before q n (o ∷ os) h e =
+    ⊎_elim (λ k. subst (λ u. u < n) (eqb-true o.place q (both_true _ _ k).0) h.0) (held_before q n os h.1) (or_cases _ _ e)
 
 -- where some offer has room, that one stands held with room up to it
 pub record HasRoomAt (kind : Kind) (n : ℕ) (os : List Standing) : Type 0 where
@@ -151,46 +136,19 @@ pub record HasRoomAt (kind : Kind) (n : ℕ) (os : List Standing) : Type 0 where
 
 some_room : (kind : Kind) (n : ℕ) (os : List Standing) → owes_admission kind n os ≡ true → HasRoomAt kind n os
 some_room kind n [] h = cc
-some_room kind n (o ∷ os) h = at (is_some o.holder) (is_full kind n) refl refl (λ t. some_room kind (n + 1) os t) h
-  where
-    here : (o.place == o.place) ≡ true
-    here = grind (arith, nat_tests)
-
-    below : nat_lt o.place (o.place + 1) ≡ true
-    below = grind (arith, nat_tests)
-
-    all : (a b c d : Bool) → a ≡ true → b ≡ true → c ≡ false → ((a && (b && not c)) || d) ≡ true
-    all true true false d p q r = refl
-    all true true true d p q r = cc
-    all true false c d p q r = cc
-    all false b c d p q r = cc
-
-    now : is_some o.holder ≡ true → is_full kind n ≡ false → HasRoomAt kind n (o ∷ os)
-    now a f = record {
+some_room kind n (o ∷ os) h = ⊎_elim
+    (λ k. let held = both_true _ _ k in record {
       place = o.place;
-      stands = ap (λ b. b
-          || list_any (stands_held o.place) os) (and_from (o.place == o.place) (is_some o.holder) here a);
-      owed =
-          all (is_some o.holder) (nat_lt o.place (o.place + 1)) (is_full kind n) _ a below f;
-    }
-
-    later : HasRoomAt kind (n + 1) os → HasRoomAt kind n (o ∷ os)
-    later r = record { place = r.place; stands = or_right _ _ r.stands; owed = or_right _ _ r.owed }
-
-    at : (a f : Bool) → is_some o.holder ≡ a → is_full kind n ≡ f → (owes_admission kind (n + 1) os ≡ true → HasRoomAt kind (n + 1) os)
-        → ((a && not f) || owes_admission kind (n + 1) os) ≡ true → HasRoomAt kind n (o ∷ os)
-    at true false a f rec h = now a f
-    at true true a f rec h = later (rec h)
-    at false f a e rec h = later (rec h)
+      stands = or_left _ _ (and_from _ _ (eq-eqb o.place o.place refl) held.0);
+      owed = or_left _ _ (and_from _ _ held.0 (and_from _ _ (lt-ltb o.place (o.place + 1) (omega arith)) held.1));
+    })
+    (λ k. let r = some_room kind (n + 1) os k in record { place = r.place; stands = or_right _ _ r.stands; owed = or_right _ _ r.owed })
+    (or_cases _ _ h)
 
 -- ---- an act behind which the marks stand
 
 of_empty : (kind : Kind) (q : ℕ) (s : State) (c : ℕ) → (s.channels c).queue ≡ [] → owes_admit kind q (s.channels c) ≡ false
 of_empty kind q s c e = and_left (list_any (stands_held q) (s.channels c).queue) _ (ap (list_any (stands_held q)) e)
-
-one_more : (xs : List Entry) (x : Entry) (ys : List Entry) → (xs ++ x ∷ []) ++ ys ≡ xs ++ x ∷ ys
-one_more [] x ys = refl
-one_more (z ∷ xs) x ys = ap (λ l. z ∷ l) (one_more xs x ys)
 
 -- an act behind which the marks stand
 by_mark : (shape : Shape) (channels : List Entry) → Legal shape channels
@@ -207,7 +165,7 @@ by_mark shape channels l c q k before e rest ys parts owed behind has =
     ∙ append_assoc (part who_did deed k before) (e.act ∷ []) m.first.later_acts) in
     let stands = (both_true (list_any (stands_held q) ((after (replay before) e.who e.act).channels c).queue) _ owed).0 in
     let there : replay (before ++ e ∷ []) ≡ after (replay before) e.who e.act = replay_push before e in
-    let whole : Legal shape ((before ++ e ∷ []) ++ rest) = subst (Legal shape) (parts ∙ sym (one_more before e rest)) l in
+    let whole : Legal shape ((before ++ e ∷ []) ++ rest) = subst (Legal shape) (parts ∙ sym (append_assoc before (e ∷ []) rest)) l in
     let reaches : Legal shape ((before ++ e ∷ []) ++ r.0) =
     Legal-prefix shape ((before ++ e ∷ []) ++ r.0) m.first.more
     (subst (Legal shape) (sym (append_assoc (before ++ e ∷ []) r.0 m.first.more ∙ ap (λ u. (before ++ e ∷ []) ++ u) (sym r.1))) whole)
@@ -220,7 +178,7 @@ by_mark shape channels l c q k before e rest ys parts owed behind has =
     subst (λ (s : State). (s.channels c).next ≤ ((replay ((before ++ e ∷ []) ++ r.0)).channels c).next) there
     (given_later shape (before ++ e ∷ []) r.0 c reaches) in
     let is : ((replay ((before ++ e ∷ []) ++ r.0)).channels c).next ≡ m.mark =
-    ap (λ l. ((replay l).channels c).next) (one_more before e r.0 ∙ sym r.2) ∙ m.first.holds in
+    ap (λ l. ((replay l).channels c).next) (append_assoc before (e ∷ []) r.0 ∙ sym r.2) ∙ m.first.holds in
     let below : q < m.mark = omega (arith, low, grown, is) in
     record {
       at = m.second.at;
@@ -261,14 +219,8 @@ admit_debt raised shape channels l c q = record {
 -- where only an Offer, a Take and a Drain raise it, no held offer has room at the end
 pub admitted_at_end : AdmitIsRaised → AdmittedAtEnd
 unfolding admit_debt
-admitted_at_end raised p books channels jobs of c = at (owes_admission (kind_at (floor_shape p) c) 0 ((replay channels).channels c).queue)
-    refl
-  where
-    at : (b : Bool) → owes_admission (kind_at (floor_shape p) c) 0 ((replay channels).channels c).queue ≡ b
-        → owes_admission (kind_at (floor_shape p) c) 0 ((replay channels).channels c).queue ≡ false
-    at true e =
-        let r = some_room (kind_at (floor_shape p) c) 0 ((replay channels).channels c).queue e in
-        absurd (both_ways (owes_admit (kind_at (floor_shape p) c) r.place ((replay channels).channels c))
-        (nobody_owes p books channels jobs of (admit_debt raised (floor_shape p) channels of.legal_channels c r.place))
-        (and_from _ _ r.stands r.owed))
-    at false e = e
+admitted_at_end raised p books channels jobs of c = false_from_ne_true _ (λ e.
+    let r = some_room (kind_at (floor_shape p) c) 0 ((replay channels).channels c).queue e in
+    both_ways (owes_admit (kind_at (floor_shape p) c) r.place ((replay channels).channels c))
+    (nobody_owes p books channels jobs of (admit_debt raised (floor_shape p) channels of.legal_channels c r.place))
+    (and_from _ _ r.stands r.owed))

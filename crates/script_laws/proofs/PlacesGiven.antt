@@ -1,9 +1,9 @@
 -- Who gave out the places of a channel; and a wait of one clause that was resolved as closed has its channel closed.
 use Rattle.script_grammar.proofs.Truths.{both_true}
-use Rattle.std.specs.Prelude.{◌≡◌, ℕ, ◌≤◌, ◌==◌, ◌⊎◌, Bool, true, false, not, ◌||◌, List, [], ◌∷◌, Option, Some, None, is_some, if◌then◌else◌, MatchBool, refl}
+use Rattle.std.specs.Prelude.{◌≡◌, ℕ, ◌≤◌, ◌==◌, ◌⊎◌, Bool, true, false, not, ◌||◌, List, [], ◌∷◌, Option, Some, None, is_some, MatchBool, refl}
 use Rattle.std.specs.List.{list_any, list_all}
 use Rattle.std.proofs.Common.{sym, ap, ◌∙◌, subst, inl, inr, ⊎_elim, arith}
-use Rattle.std.proofs.lemmas.Bool.{eqb-true, eq-eqb, or_right, and_from, both_ways, or_left}
+use Rattle.std.proofs.lemmas.Bool.{eqb-true, eq-eqb, not-true, or_right, or_cases, and_from, both_ways, or_left, cond_both, cond-true}
 use Rattle.std.proofs.lemmas.Option.{same_Some}
 use Rattle.co_base.specs.declared.names.WaitId.{WaitId}
 use Rattle.channel_model.specs.declared.acts.Act.{Act}
@@ -34,18 +34,11 @@ NextOr : ℕ → Act → State → State → Type 0
 NextOr c act s t = ((t.channels c).next ≡ (s.channels c).next) ⊎ (places_on c act ≡ true)
 
 put_next : (c d : ℕ) (ch : Channel) (s : State) → ch.next ≡ (s.channels d).next → (put_channel d ch s.channels c).next ≡ (s.channels c).next
-put_next c d ch s e = by_test (d == c) refl
-  where
-    by_test : (b : Bool) → (d == c) ≡ b → (if b then ch else s.channels c).next ≡ (s.channels c).next
-    by_test true f = e ∙ ap (λ n. (s.channels n).next) (eqb-true d c f)
-    by_test false f = refl
+put_next c d ch s e = cond_both (d == c) ch (s.channels c) (λ x. x.next ≡ (s.channels c).next)
+    (λ f. e ∙ ap (λ n. (s.channels n).next) (eqb-true d c f)) (λ f. refl)
 
 put_or : (c d : ℕ) (ch : Channel) (s : State) → ((put_channel d ch s.channels c).next ≡ (s.channels c).next) ⊎ ((d == c) ≡ true)
-put_or c d ch s = by_test (d == c) refl
-  where
-    by_test : (b : Bool) → (d == c) ≡ b → ((if b then ch else s.channels c).next ≡ (s.channels c).next) ⊎ ((d == c) ≡ true)
-    by_test true f = inr f
-    by_test false f = inl refl
+put_or c d ch s = cond_both (d == c) ch (s.channels c) (λ x. (x.next ≡ (s.channels c).next) ⊎ ((d == c) ≡ true)) inr (λ f. inl refl)
 
 first_next : (c : ℕ) (rs : List Receiver) (how : ℕ → Resolution) (s : State)
     → ((resolve_first rs how s).channels c).next ≡ (s.channels c).next
@@ -88,20 +81,14 @@ act_next c s who other = inl refl
 
 own_act : (test : Act → Bool) (e : Entry) (es : List Entry) → test e.act ≡ true → list_any test (acts_of e.who (e ∷ es)) ≡ true
 unfolding acts_of
-own_act test e es h = by_test (e.who == e.who) (eq-eqb e.who e.who refl)
-  where
-    by_test : (b : Bool) → b ≡ true → list_any test (if b then e.act ∷ acts_of e.who es else acts_of e.who es) ≡ true
-    by_test true f = or_left (test e.act) _ h
-    by_test false f = cc
+own_act test e es h = ap (list_any test) (cond-true (e.who == e.who) (e.act ∷ acts_of e.who es) _ (eq-eqb e.who e.who refl))
+    ∙ or_left (test e.act) _ h
 
 later_act : (test : Act → Bool) (u : ℕ) (e : Entry) (es : List Entry) → list_any test (acts_of u es) ≡ true
     → list_any test (acts_of u (e ∷ es)) ≡ true
 unfolding acts_of
-later_act test u e es h = by_test (e.who == u)
-  where
-    by_test : (b : Bool) → list_any test (if b then e.act ∷ acts_of u es else acts_of u es) ≡ true
-    by_test true = or_right (test e.act) (list_any test (acts_of u es)) h
-    by_test false = h
+later_act test u e es h = cond_both (e.who == u) (e.act ∷ acts_of u es) (acts_of u es) (λ l. list_any test l ≡ true)
+    (λ f. or_right (test e.act) _ h) (λ f. h)
 
 given_from : (c : ℕ) (s : State) (es : List Entry) → (((replay_from s es).channels c).next ≡ (s.channels c).next)
     ⊎ ((u : ℕ) × (list_any (places_on c) (acts_of u es) ≡ true))
@@ -160,11 +147,9 @@ resolved_clause c flag now how (Some x) f g h = (h.0, λ j u e. g (how_closes ho
 resolve_clause : (c : ℕ) (flag now : Bool) (how : Resolution) (w v : WaitId) (s : State) → (flag ≡ true → now ≡ true)
     → (is_closing how ≡ true → (x : Wait) → s.waits w ≡ Some x → x.clauses ≡ (0, c) ∷ [] → now ≡ true)
     → ((u : WaitId) → u.channel ≡ c → OneClause c flag (s.waits u)) → v.channel ≡ c → OneClause c now ((resolve w how s).waits v)
-resolve_clause c flag now how w v s f g h e = by_test (same_wait w v) refl
-  where
-    by_test : (b : Bool) → same_wait w v ≡ b → OneClause c now (if b then resolved_wait how (s.waits w) else s.waits v)
-    by_test true t = resolved_clause c flag now how (s.waits w) f g (h w (ap (λ (u : WaitId). u.channel) (same_wait-eq w v t) ∙ e))
-    by_test false t = same_clause c flag now (s.waits v) f (h v e)
+resolve_clause c flag now how w v s f g h e = cond_both (same_wait w v) (resolved_wait how (s.waits w)) (s.waits v) (OneClause c now)
+    (λ t. resolved_clause c flag now how (s.waits w) f g (h w (ap (λ (u : WaitId). u.channel) (same_wait-eq w v t) ∙ e)))
+    (λ t. same_clause c flag now (s.waits v) f (h v e))
 
 not_closing : (c : ℕ) (now : Bool) (how : Resolution) (o : Option Wait) → is_closing how ≡ false → is_closing how ≡ true → (x : Wait)
     → o ≡ Some x → x.clauses ≡ (0, c) ∷ [] → now ≡ true
@@ -214,18 +199,19 @@ woken_clause c d now (r ∷ rs) how s v f stand shut h e =
     e
   where
     there : (x : Wait) → x.clauses ≡ (0, c) ∷ [] → IsStandingAt d (Some x) → d ≡ c
-    there x one at = sym (eqb-true c d (only (c == d) (sym (ap (λ l. list_any (λ (y : ℕ × ℕ). y.1 == d) l) one) ∙ at.1)))
-      where
-        only : (b : Bool) → (b || false) ≡ true → b ≡ true
-        only true g = refl
-        only false g = g
+    there x one at = sym (eqb-true c d (⊎_elim (λ g. g) (λ g. cc)
+        (or_cases (c == d) false (sym (ap (λ l. list_any (λ (y : ℕ × ℕ). y.1 == d) l) one) ∙ at.1))))
 
 -- a clause is named
 named_clause : (c : ℕ) (now : Bool) (s : State) (who k d p places : ℕ) (w v : WaitId) → (is_some (s.channels c).closed ≡ true → now ≡ true)
     → Placed s → HasPlace places p (s.channels d) → MayName who k d p w s → (not (d == c) || (k == 0)) ≡ true → Ones c s → v.channel ≡ c
     → OneClause c now (put_wait w (name_clause who k d (s.waits w)) s.waits v)
 unfolding Ones OneClause
-named_clause c now s who k d p places w v f placed place may plain h e = by_test (same_wait w v) refl
+named_clause c now s who k d p places w v f placed place may plain h e =
+    cond_both (same_wait w v) (name_clause who k d (s.waits w)) (s.waits v) (OneClause c now)
+    (λ t. let at = ap (λ (u : WaitId). u.channel) (same_wait-eq w v t) ∙ e
+    in on_c at (same_wait w (record { channel = d; place = p })) refl may (h w at))
+    (λ t. same_clause c (is_some (s.channels c).closed) now (s.waits v) f (h v e))
   where
     on_c : w.channel ≡ c → (b : Bool) → same_wait w (record { channel = d; place = p }) ≡ b
         → MatchBool b (k ≤ 7) (JoinsWait who k d (s.waits w)) → OneClause c (is_some (s.channels c).closed) (s.waits w)
@@ -235,16 +221,13 @@ named_clause c now s who k d p places w v f placed place may plain h e = by_test
         let d_is : d ≡ c = sym (ap (λ (u : WaitId). u.channel) is) ∙ at in
         let fresh : s.waits w ≡ None = placed w (subst (λ (u : WaitId). (s.channels u.channel).next ≤ u.place) (sym is)
         (let first = place.first in omega (arith, first))) in
-        let none = zero_of (d == c) (k == 0) refl (eq-eqb d c d_is) plain in
+        let none : (k == 0) ≡ true = ⊎_elim (λ g. absurd (both_ways (d == c) (not-true (d == c) g) (eq-eqb d c d_is))) (λ g. g)
+        (or_cases _ _ plain) in
         subst (λ o. OneClause c now (name_clause who k d o)) (sym fresh) (
           ap (λ n. (n, d) ∷ []) (eqb-true k 0 none)
               ∙ ap (λ n. (0, n) ∷ []) d_is,
           λ j u r. cc,
         )
-      where
-        zero_of : (a b : Bool) → (k == 0) ≡ b → a ≡ true → (not a || b) ≡ true → (k == 0) ≡ true
-        zero_of true b is g i = is ∙ i
-        zero_of false b is g i = cc
     on_c at false t m one = of_wait (s.waits w) m one
       where
         of_wait : (o : Option Wait) → JoinsWait who k d o → OneClause c (is_some (s.channels c).closed) o
@@ -252,11 +235,6 @@ named_clause c now s who k d p places w v f placed place may plain h e = by_test
         of_wait None m one = absurd m
         of_wait (Some x) m one = absurd (let select : began_by_select ((0, c) ∷ []) ≡ true = ap began_by_select (sym one.0) ∙ m.select
             in cc)
-
-    by_test : (b : Bool) → same_wait w v ≡ b → OneClause c now (if b then name_clause who k d (s.waits w) else s.waits v)
-    by_test true t = let at = ap (λ (u : WaitId). u.channel) (same_wait-eq w v t) ∙ e
-        in on_c at (same_wait w (record { channel = d; place = p })) refl may (h w at)
-    by_test false t = same_clause c (is_some (s.channels c).closed) now (s.waits v) f (h v e)
 
 settled_clause : (c : ℕ) (flag now : Bool) (outcome : Settled) (o : Option Wait) → (flag ≡ true → now ≡ true) → OneClause c flag o
     → OneClause c now (settled_wait outcome o)
@@ -278,8 +256,6 @@ ones_step : (shape : Shape) (c : ℕ) (s : State) (who : ℕ) (act : Act) → So
 unfolding Ones
 ones_step shape c s who (Hand d p v) good n plain h = λ w e. first_clause c d _ (s.channels d).receivers _ s w
     (closed_step shape s who (Hand d p v) c n) (λ k. refl) h e
-ones_step shape c s who (Put d p v) good n plain h = λ w e. same_clause c (is_some (s.channels c).closed) _ (s.waits w)
-    (closed_step shape s who (Put d p v) c n) (h w e)
 ones_step shape c s who (Offer d p v u k) good n plain h =
     λ w e. named_clause c _ s who k d p _ u w (closed_step shape s who (Offer d p v u k) c n) good.placed n.1 n.4 plain h e
 ones_step shape c s who (Await d p u k) good n plain h =
@@ -291,12 +267,6 @@ ones_step shape c s who (Admit d p) good n plain h = λ w e. holder_clause c _ (
     (λ k. refl) h e
 ones_step shape c s who (Drop d p v) good n plain h = λ w e. removed_clause c d _ (s.channels d).queue s w
     (closed_step shape s who (Drop d p v) c n) h e
-ones_step shape c s who (Spurn d p v) good n plain h = λ w e. same_clause c (is_some (s.channels c).closed) _ (s.waits w)
-    (closed_step shape s who (Spurn d p v) c n) (h w e)
-ones_step shape c s who (Close d v) good n plain h = λ w e. same_clause c (is_some (s.channels c).closed) _ (s.waits w)
-    (closed_step shape s who (Close d v) c n) (h w e)
-ones_step shape c s who (Void d) good n plain h = λ w e. same_clause c (is_some (s.channels c).closed) _ (s.waits w)
-    (closed_step shape s who (Void d) c n) (h w e)
 ones_step shape c s who (Drain d p v) good n plain h = λ w e. offer_clause c d _ (s.channels d).queue _ s w
     (closed_step shape s who (Drain d p v) c n) (λ k. refl) h e
 ones_step shape c s who (WakeClosed d p) good n plain h =
@@ -304,13 +274,12 @@ ones_step shape c s who (WakeClosed d p) good n plain h =
 ones_step shape c s who (Withdraw u why) good n plain h =
     λ w e. resolve_clause c (is_some (s.channels c).closed) _ (resolved.Withdrawn why) u w s (closed_step shape s who (Withdraw u why) c n)
     (not_closing c _ (resolved.Withdrawn why) (s.waits u) refl) h e
-ones_step shape c s who (Settle u outcome) good n plain h = λ w e. by_test w e (same_wait u w) refl
-  where
-    by_test : (w : WaitId) → w.channel ≡ c → (b : Bool) → same_wait u w ≡ b
-        → OneClause c (is_some (s.channels c).closed) (if b then settled_wait outcome (s.waits u) else s.waits w)
-    by_test w e true t = settled_clause c (is_some (s.channels c).closed) (is_some (s.channels c).closed) outcome (s.waits u) (λ f. f)
-        (h u (ap (λ (z : WaitId). z.channel) (same_wait-eq u w t) ∙ e))
-    by_test w e false t = h w e
+ones_step shape c s who (Settle u outcome) good n plain h =
+    λ w e. cond_both (same_wait u w) (settled_wait outcome (s.waits u)) (s.waits w) (OneClause c (is_some (s.channels c).closed))
+    (λ t. settled_clause c (is_some (s.channels c).closed) (is_some (s.channels c).closed) outcome (s.waits u) (λ f. f)
+    (h u (ap (λ (z : WaitId). z.channel) (same_wait-eq u w t) ∙ e))) (λ t. h w e)
+ones_step shape c s who other good n plain h = λ w e. same_clause c (is_some (s.channels c).closed) _ (s.waits w)
+    (closed_step shape s who other c n) (h w e)
 
 start_ones : (c : ℕ) → Ones c start
 unfolding Ones OneClause
@@ -330,10 +299,6 @@ settles_there c s who (Settle w (settled.Closed n v)) shape need h e = of_wait (
         by_how : (r : Option Resolution) → x.resolved ≡ r → IsOutcome (settled.Closed n v) r → is_some (s.channels c).closed ≡ true
         by_how None f o = absurd o
         by_how (Some how) f o = one.1 n v (f ∙ ap (λ (z : Resolution). Some z) o)
-settles_there c s who (Settle w (settled.Value n v)) shape need h e = cc
-settles_there c s who (Settle w (settled.Sent n)) shape need h e = cc
-settles_there c s who (Settle w settled.Cancelled) shape need h e = cc
-settles_there c s who (Settle w (settled.Undelivered v)) shape need h e = cc
 settles_there c s who other shape need h e = cc
 
 closed_from : (shape : Shape) (c : ℕ) (s : State) (es : List Entry) → LegalFrom shape s es → is_some (s.channels c).closed ≡ true
@@ -349,23 +314,15 @@ unfolding LegalFrom replay_from acts_of
 ended_from shape c k s [] good l h plain e = cc
 ended_from shape c k s (x ∷ es) good l h plain e =
     let two = both_true (plain_at c x.act) (list_all (λ (e : Entry). plain_at c e.act) es) plain in
-    by_who (x.who == k) e (λ f. ended_from shape c k (after s x.who x.act) es (sound_step shape s x.who x.act l.0 good) l.1
-    (ones_step shape c s x.who x.act good l.0 two.0 h) two.1 f)
+    let more : list_any (ends_closed c) (acts_of k es) ≡ true → is_some ((replay_from (after s x.who x.act) es).channels c).closed ≡ true =
+    ended_from shape c k (after s x.who x.act) es (sound_step shape s x.who x.act l.0 good) l.1
+    (ones_step shape c s x.who x.act good l.0 two.0 h) two.1 in
+    cond_both (x.who == k) (x.act ∷ acts_of k es) (acts_of k es)
+    (λ acts. list_any (ends_closed c) acts ≡ true → is_some ((replay_from (after s x.who x.act) es).channels c).closed ≡ true)
+    (λ own f. ⊎_elim (λ g. later (settles_there c s x.who x.act shape l.0 h g)) more (or_cases _ _ f)) (λ other. more) e
   where
     later : is_some (s.channels c).closed ≡ true → is_some ((replay_from (after s x.who x.act) es).channels c).closed ≡ true
     later f = closed_from shape c (after s x.who x.act) es l.1 (closed_step shape s x.who x.act c l.0 f)
-
-    by_act : (b : Bool) → ends_closed c x.act ≡ b → (list_any (ends_closed c) (acts_of k es) ≡ true
-        → is_some ((replay_from (after s x.who x.act) es).channels c).closed ≡ true) → (b || list_any (ends_closed c) (acts_of k es)) ≡ true
-        → is_some ((replay_from (after s x.who x.act) es).channels c).closed ≡ true
-    by_act true f more g = later (settles_there c s x.who x.act shape l.0 h f)
-    by_act false f more g = more g
-
-    by_who : (b : Bool) → list_any (ends_closed c) (if b then x.act ∷ acts_of k es else acts_of k es) ≡ true
-        → (list_any (ends_closed c) (acts_of k es) ≡ true → is_some ((replay_from (after s x.who x.act) es).channels c).closed ≡ true)
-        → is_some ((replay_from (after s x.who x.act) es).channels c).closed ≡ true
-    by_who true g more = by_act (ends_closed c x.act) refl more g
-    by_who false g more = more g
 
 -- where a coroutine's wait at a channel of single clauses ended as closed, the channel is closed
 pub ended_closed : (shape : Shape) (c k : ℕ) (history : List Entry) → Legal shape history
@@ -377,20 +334,14 @@ ended_closed shape c k history l plain e = ended_from shape c k start history (s
 
 own_all : (test : Act → Bool) (e : Entry) (es : List Entry) → list_all test (acts_of e.who (e ∷ es)) ≡ true → test e.act ≡ true
 unfolding acts_of
-own_all test e es h = by_test (e.who == e.who) (eq-eqb e.who e.who refl) h
-  where
-    by_test : (b : Bool) → b ≡ true → list_all test (if b then e.act ∷ acts_of e.who es else acts_of e.who es) ≡ true → test e.act ≡ true
-    by_test true f g = (both_true (test e.act) (list_all test (acts_of e.who es)) g).0
-    by_test false f g = cc
+own_all test e es h = (both_true (test e.act) (list_all test (acts_of e.who es))
+    (sym (ap (list_all test) (cond-true (e.who == e.who) (e.act ∷ acts_of e.who es) (acts_of e.who es) (eq-eqb e.who e.who refl))) ∙ h)).0
 
 later_all : (test : Act → Bool) (u : ℕ) (e : Entry) (es : List Entry) → list_all test (acts_of u (e ∷ es)) ≡ true
     → list_all test (acts_of u es) ≡ true
 unfolding acts_of
-later_all test u e es h = by_test (e.who == u) h
-  where
-    by_test : (b : Bool) → list_all test (if b then e.act ∷ acts_of u es else acts_of u es) ≡ true → list_all test (acts_of u es) ≡ true
-    by_test true g = (both_true (test e.act) (list_all test (acts_of u es)) g).1
-    by_test false g = g
+later_all test u e es h = cond_both (e.who == u) (e.act ∷ acts_of u es) (acts_of u es)
+    (λ l. list_all test l ≡ true → list_all test (acts_of u es) ≡ true) (λ f g. (both_true (test e.act) _ g).1) (λ f g. g) h
 
 pub all_from_each : (test : Act → Bool) (es : List Entry) → ((u : ℕ) → list_all test (acts_of u es) ≡ true)
     → list_all (λ (e : Entry). test e.act) es ≡ true

@@ -1,16 +1,16 @@
 -- At the end of a run no channel has more elements than its kind keeps.
-use Rattle.std.proofs.Common.{◌≡◌, ℕ, zero, suc, ◌<◌, ◌≤◌, arith, length, Bool, true, false, ◌&&◌, List, [], ◌∷◌, ◌++◌, refl, ap, sym, ◌∙◌, subst, Some, None, if◌then◌else◌}
+use Rattle.std.proofs.Common.{◌≡◌, ℕ, zero, suc, ◌<◌, ◌≤◌, arith, length, Bool, true, false, ◌&&◌, List, [], ◌∷◌, ◌++◌, refl, ap, sym, ◌∙◌, subst, None}
 use Rattle.std.specs.Prelude.{◌==◌, ◌+◌, nat_le, nat_lt, cond}
 use Rattle.std.proofs.lemmas.Bool.{eqb-true, both_ways, and_from, and_right, false_from_ne_true}
 use Rattle.std.proofs.lemmas.Bool.Decides.{nat_tests}
 use Rattle.channel_model.specs.declared.acts.Act.{Act}
-use Rattle.channel_model.specs.declared.acts.Act.TheVariants.{Hand, Put, Offer, Await, Take, Admit, Drop, Spurn, Close, Void, Drain, WakeClosed, Withdraw, Settle}
+use Rattle.channel_model.specs.declared.acts.Act.TheVariants.{Put, Offer, Await, Close, Void}
 use Rattle.channel_model.specs.declared.acts.Entry.{Entry}
 use Rattle.channel_model.specs.declared.acts.Kind.{Kind}
 use Rattle.channel_model.specs.declared.acts.Kind.TheVariants.{Rendezvous, Conflated, DropOldest}
 use Rattle.channel_model.specs.declared.standing.Standing.{Standing}
 use Rattle.channel_model.specs.Channels.{Shape, State, Channel, kind_at, drops, suspends}
-use Rattle.channel_model.specs.Effects.{after, is_open, place_offer, place_receiver}
+use Rattle.channel_model.specs.Effects.{after, is_open, place_offer}
 use Rattle.channel_model.specs.Needs.{Needs}
 use Rattle.channel_model.specs.Owing.{offers_up_to}
 use Rattle.channel_model.specs.Histories.{replay, Legal}
@@ -26,7 +26,7 @@ use Rattle.script_meaning.proofs.Debts.{part}
 use Rattle.script_meaning.proofs.ActsFollowed.{Follows}
 use Rattle.script_meaning.proofs.ChannelStories.{who_did, deed}
 use Rattle.script_laws.proofs.ChannelDebts.{CallDebt, BehindOf, CallPaidAt, by_fact, nobody_owes, needs_there}
-use Rattle.script_laws.proofs.ClosedChannels.{Less, AllBefore, less_after}
+use Rattle.script_laws.proofs.ClosedChannels.{Less, AllBefore, less_after, by_put, receiver_queue}
 use Rattle.script_grammar.proofs.Truths.{both_true}
 
 -- place q was given out, and up to it more elements stand than the kind keeps
@@ -51,7 +51,6 @@ low n m [] h = h
 low n m (o ∷ os) h = let k = low (o.place + 1) m os h.1 in let g = h.0 in omega arith
 
 ascending_before : (n m : ℕ) (os : List Standing) → Ascends (λ (o : Standing). o.place) n m os → AllBefore m os
-unfolding AllBefore
 ascending_before n m [] h = tt
 ascending_before n m (o ∷ os) h = (let k = low (o.place + 1) m os h.1 in omega arith, ascending_before (o.place + 1) m os h.1)
 
@@ -83,11 +82,7 @@ drop_by_less kind q a b h f t =
     ∙ r.0) (fewer_drop kind (offers_up_to q b.queue) (offers_up_to q a.queue) (h.up_to q) r.1))
 
 last_up_to : (q : ℕ) (os : List Standing) (o : Standing) → nat_le o.place q ≡ false → offers_up_to q (os ++ o ∷ []) ≡ offers_up_to q os
-last_up_to q [] o h = at (nat_le o.place q) h
-  where
-    at : (b : Bool) → b ≡ false → cond b 1 0 + 0 ≡ 0
-    at true h = cc
-    at false h = refl
+last_up_to q [] o h = ap (λ b. cond b 1 0 + 0) h
 last_up_to q (x ∷ os) o h = ap (λ n. cond (nat_le x.place q) 1 0 + n) (last_up_to q os o h)
 
 put_there : (kind : Kind) (q : ℕ) (o : Standing) (ch : Channel) → o.place ≡ ch.next → owes_drop kind q ch ≡ false
@@ -109,68 +104,16 @@ put_there kind q o ch e f t = at (o.place == q) refl
 drop_raised : (shape : Shape) (s : State) (who c q : ℕ) (act : Act) → Needs shape s who act
     → owes_drop (kind_at shape c) q (s.channels c) ≡ false → owes_drop (kind_at shape c) q ((after s who act).channels c) ≡ true
     → IsPutAt c q act
-drop_raised shape s who c q (Put d r v) n f t = at (d == c) refl t
-  where
-    there : (d ≡ c) → owes_drop (kind_at shape c) q (place_offer true (record { place = r; value = v; holder = None }) (s.channels d)) ≡
-        true → r ≡ q
-    there e t = put_there (kind_at shape c) q (record { place = r; value = v; holder = None }) (s.channels d) n.1.first
-        (subst (λ u. owes_drop (kind_at shape c) q (s.channels u) ≡ false) (sym e) f) t
-
-    at : (b : Bool) → (d == c) ≡ b → owes_drop (kind_at shape c) q
-        (if b then place_offer true (record { place = r; value = v; holder = None }) (s.channels d) else s.channels c) ≡ true → (d ≡ c)
-        × (r ≡ q)
-    at true e t = (eqb-true d c e, there (eqb-true d c e) t)
-    at false e t = absurd (both_ways (owes_drop (kind_at shape c) q (s.channels c)) f t)
-drop_raised shape s who c q (Offer d r v w k) n f t = absurd (at (d == c) refl t)
-  where
-    at : (b : Bool) → (d == c) ≡ b → owes_drop (kind_at shape c) q
-        (if b then place_offer (is_open (s.waits w)) (record { place = r; value = v; holder = Some (record { wait = w; clause = k }) })
-        (s.channels d) else s.channels c) ≡ true → ⊥
-    at true e t = waiting_keeps (kind_at shape c) _ (subst (λ u. suspends (kind_at shape u) ≡ true) (eqb-true d c e) n.3)
-        (both_true _ _ t).1
-    at false e t = both_ways (owes_drop (kind_at shape c) q (s.channels c)) f t
-drop_raised shape s who c q (Await d r w k) n f t = absurd (at (d == c) refl (is_open (s.waits w)) t)
-  where
-    none : (queue : List Standing) → queue ≡ [] → drops (kind_at shape c) (offers_up_to q queue) ≡ true → ⊥
-    none queue e h = none_drops (kind_at shape c) (subst (λ l. drops (kind_at shape c) (offers_up_to q l) ≡ true) e h)
-
-    at : (b : Bool) → (d == c) ≡ b → (o : Bool) → owes_drop (kind_at shape c) q
-        (if b then place_receiver o (record { place = r; party = record { wait = w; clause = k } }) (s.channels d) else s.channels c) ≡ true
-        → ⊥
-    at true e true t = none (s.channels d).queue n.2 (both_true _ _ t).1
-    at true e false t = none (s.channels d).queue n.2 (both_true _ _ t).1
-    at false e o t = both_ways (owes_drop (kind_at shape c) q (s.channels c)) f t
-drop_raised shape s who c q (Close d v) n f t = absurd (at (d == c) refl t)
-  where
-    at : (b : Bool) → (d == c) ≡ b → owes_drop (kind_at shape c) q (if b then record (s.channels d) { closed = Some v } else s.channels c) ≡
-        true → ⊥
-    at true e t = both_ways (owes_drop (kind_at shape c) q (s.channels c)) f
-        (subst (λ u. owes_drop (kind_at shape c) q (s.channels u) ≡ true) (eqb-true d c e) t)
-    at false e t = both_ways (owes_drop (kind_at shape c) q (s.channels c)) f t
-drop_raised shape s who c q (Void d) n f t = absurd (at (d == c) refl t)
-  where
-    at : (b : Bool) → (d == c) ≡ b → owes_drop (kind_at shape c) q (if b then record (s.channels d) { voided = true } else s.channels c) ≡
-        true → ⊥
-    at true e t = both_ways (owes_drop (kind_at shape c) q (s.channels c)) f
-        (subst (λ u. owes_drop (kind_at shape c) q (s.channels u) ≡ true) (eqb-true d c e) t)
-    at false e t = both_ways (owes_drop (kind_at shape c) q (s.channels c)) f t
-drop_raised shape s who c q (Hand d p v) n f t = absurd
-    (drop_by_less (kind_at shape c) q (s.channels c) _ (less_after s who (Hand d p v) refl c) f t)
-drop_raised shape s who c q (Take d p v) n f t = absurd
-    (drop_by_less (kind_at shape c) q (s.channels c) _ (less_after s who (Take d p v) refl c) f t)
-drop_raised shape s who c q (Admit d p) n f t = absurd (drop_by_less (kind_at shape c) q (s.channels c) _
-    (less_after s who (Admit d p) refl c) f t)
-drop_raised shape s who c q (Drop d p v) n f t = absurd
-    (drop_by_less (kind_at shape c) q (s.channels c) _ (less_after s who (Drop d p v) refl c) f t)
-drop_raised shape s who c q (Spurn d p v) n f t = absurd
-    (drop_by_less (kind_at shape c) q (s.channels c) _ (less_after s who (Spurn d p v) refl c) f t)
-drop_raised shape s who c q (Drain d p v) n f t = absurd
-    (drop_by_less (kind_at shape c) q (s.channels c) _ (less_after s who (Drain d p v) refl c) f t)
-drop_raised shape s who c q (WakeClosed d p) n f t = absurd
-    (drop_by_less (kind_at shape c) q (s.channels c) _ (less_after s who (WakeClosed d p) refl c) f t)
-drop_raised shape s who c q (Withdraw w why) n f t = absurd
-    (drop_by_less (kind_at shape c) q (s.channels c) _ (less_after s who (Withdraw w why) refl c) f t)
-drop_raised shape s who c q (Settle w outcome) n f t = absurd (both_ways (owes_drop (kind_at shape c) q (s.channels c)) f t)
+drop_raised shape s who c q (Put d r v) n f t = by_put ((d ≡ c) × (r ≡ q)) (owes_drop (kind_at shape c) q) s d c _ f t
+    (λ e g h. (e, put_there (kind_at shape c) q (record { place = r; value = v; holder = None }) (s.channels d) n.1.first g h))
+drop_raised shape s who c q (Offer d r v w k) n f t = absurd (by_put ⊥ (owes_drop (kind_at shape c) q) s d c _ f t
+    (λ e g h. waiting_keeps (kind_at shape c) _ (subst (λ u. suspends (kind_at shape u) ≡ true) e n.3) (both_true _ _ h).1))
+drop_raised shape s who c q (Await d r w k) n f t = absurd (by_put ⊥ (owes_drop (kind_at shape c) q) s d c _ f t
+    (λ e g h. none_drops (kind_at shape c) (subst (λ l. drops (kind_at shape c) (offers_up_to q l) ≡ true)
+    (receiver_queue (is_open (s.waits w)) _ (s.channels d) ∙ n.2) (both_true _ _ h).1)))
+drop_raised shape s who c q (Close d v) n f t = absurd (by_put ⊥ (owes_drop (kind_at shape c) q) s d c _ f t (λ e. both_ways _))
+drop_raised shape s who c q (Void d) n f t = absurd (by_put ⊥ (owes_drop (kind_at shape c) q) s d c _ f t (λ e. both_ways _))
+drop_raised shape s who c q other n f t = absurd (drop_by_less (kind_at shape c) q (s.channels c) _ (less_after s who other refl c) f t)
 
 drop_pays : (shape : Shape) (channels : List Entry) (c q k : ℕ) (act : Act) (before : List Entry) (ys : List Told)
     → BehindOf shape k channels before act ys → IsPutAt c q act → Follows act ys
@@ -183,11 +126,7 @@ drop_pays shape channels c q k (Put d r v) before ys b e f =
 drop_pays shape channels c q k other before ys b e f = absurd e
 
 drops_none : (kind : Kind) → drops kind 0 ≡ false
-drops_none kind = at (drops kind 0) refl
-  where
-    at : (b : Bool) → drops kind 0 ≡ b → drops kind 0 ≡ false
-    at true e = absurd (none_drops kind e)
-    at false e = e
+drops_none kind = false_from_ne_true (drops kind 0) (none_drops kind)
 
 drop_debt : (shape : Shape) (channels : List Entry) → Legal shape channels → (c q : ℕ) → CallDebt shape channels
 drop_debt shape channels l c q = record {
@@ -202,17 +141,14 @@ drop_debt shape channels l c q = record {
 -- ---- at the end
 
 all_up_to : (n : ℕ) (os : List Standing) → AllBefore (suc n) os → offers_up_to n os ≡ length os
-unfolding AllBefore
 all_up_to n [] h = refl
-all_up_to n (o ∷ os) h = at (nat_le o.place n) (let k : o.place < suc n = h.0 in grind (arith, nat_tests)) (all_up_to n os h.1)
-  where
-    at : (b : Bool) → b ≡ true → offers_up_to n os ≡ length os
-        → cond b 1 0 + offers_up_to n os ≡ suc (length os)
-    at true e h = omega (arith, h)
-    at false e h = cc
+all_up_to n (o ∷ os) h =
+    let rest = all_up_to n os h.1 in
+    let low : o.place < suc n = h.0 in
+    let here : nat_le o.place n ≡ true = grind (arith, nat_tests) in
+    ap (λ b. cond b 1 0 + offers_up_to n os) here ∙ omega arith
 
 none_placed : (os : List Standing) → AllBefore 0 os → os ≡ []
-unfolding AllBefore
 none_placed [] h = refl
 none_placed (o ∷ os) h = absurd (let k : o.place < 0 = h.0 in omega arith)
 

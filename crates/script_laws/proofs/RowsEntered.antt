@@ -1,12 +1,12 @@
 -- The rows for scopes are never all claimed while a coroutine has a scope left to enter: each claims at most one for each scope that its
 -- lines enter, and there are as many as all enter together.
-use Rattle.std.specs.Prelude.{◌≡◌, ℕ, zero, suc, ◌+◌, ◌<◌, ◌≤◌, ◌==◌, ◌⊎◌, Bool, true, false, not, ◌||◌, ◌&&◌, List, [], ◌∷◌, length, slice_get, if◌then◌else◌, MatchBool, refl}
+use Rattle.std.specs.Prelude.{◌≡◌, ℕ, zero, suc, ◌+◌, ◌<◌, ◌≤◌, ◌==◌, ◌⊎◌, Bool, true, false, not, ◌||◌, ◌&&◌, List, [], ◌∷◌, length, slice_get, if◌then◌else◌, refl}
 use Rattle.std.specs.List.{list_any}
-use Rattle.std.proofs.Common.{ap, ◌∙◌, subst, inl, inr, arith}
-use Rattle.std.proofs.lemmas.Bool.{eqb-true, and_parts, and_right}
+use Rattle.std.proofs.Common.{ap, ◌∙◌, subst, inl, inr, ⊎_elim, arith}
+use Rattle.std.proofs.lemmas.Bool.{eqb-true, MatchBool-at_true, and_parts, and_right, or_cases, cases_Bool, cond_both}
 use Rattle.std.proofs.lemmas.Bool.Decides.{nat_tests}
 use Rattle.job_model.specs.declared.acts.JobAct.{JobAct}
-use Rattle.job_model.specs.declared.acts.JobAct.TheVariants.{Attach, Start, EndBody, Cancel, Finish, Gone}
+use Rattle.job_model.specs.declared.acts.JobAct.TheVariants.{Attach}
 use Rattle.job_model.specs.declared.acts.JobEntry.{JobEntry}
 use Rattle.job_model.specs.Acts.{attaches}
 use Rattle.job_model.specs.Trees.{Shape, Tree}
@@ -32,11 +32,10 @@ sum_add (suc n) f g = omega (arith, sum_add n f g)
 sum_some : (n t : ℕ) (f : ℕ → ℕ) → t < n → 1 ≤ f t → 1 ≤ sum_below n f
 unfolding sum_below
 sum_some zero t f lt h = absurd (omega (arith, lt))
-sum_some (suc n) t f lt h = by_test (t == n) refl (λ less. sum_some n t f less h)
-  where
-    by_test : (b : Bool) → (t == n) ≡ b → (t < n → 1 ≤ sum_below n f) → 1 ≤ f n + sum_below n f
-    by_test true e more = let same : f t ≡ f n = ap f (eqb-true t n e) in omega (arith, h, same)
-    by_test false e more = let less : t < n = grind (arith, nat_tests) in let rest = more less in omega (arith, rest)
+sum_some (suc n) t f lt h = ⊎_elim
+    (λ e. let same = ap f (eqb-true t n e) in omega (arith, h, same))
+    (λ e. let less : t < n = grind (arith, nat_tests) in let rest = sum_some n t f less h in omega (arith, rest))
+    (cases_Bool (t == n))
 
 pub sum_less : (n k : ℕ) (f g : ℕ → ℕ) → ((t : ℕ) → t < n → f t ≤ g t) → k < n → f k < g k → sum_below n f < sum_below n g
 unfolding sum_below
@@ -83,8 +82,7 @@ count_more from (suc n) f g h = let rest = count_more (from + 1) n f g (λ r le 
     in let here = less (f from) (g from) (h from (omega arith)) in omega (arith, rest, here)
   where
     less : (a b : Bool) → (a ≡ true → b ≡ true) → one a ≤ one b
-    less true true i = omega arith
-    less true false i = absurd (let no_way : false ≡ true = i refl in cc)
+    less true b i = let is = ap one (i refl) in omega (arith, is)
     less false b i = omega arith
 
 pub count_none : (from n : ℕ) (f : ℕ → Bool) → ((r : ℕ) → from ≤ r → f r ≡ false) → count_from from n f ≡ 0
@@ -148,11 +146,7 @@ attach_is r (Attach p q kind tag cancelled ∷ acts) e = by_tests (r == q) kind.
     by_tests true true e more = inr refl
     by_tests true false e more = inl refl
     by_tests false s e more = more e
-attach_is r (Start q ∷ acts) e = attach_is r acts e
-attach_is r (EndBody q v ∷ acts) e = attach_is r acts e
-attach_is r (Cancel q reason ∷ acts) e = attach_is r acts e
-attach_is r (Finish q end ∷ acts) e = attach_is r acts e
-attach_is r (Gone q ∷ acts) e = attach_is r acts e
+attach_is r (other ∷ acts) e = attach_is r acts e
 
 -- these acts attach no more rows of scopes than scopes
 pub rows_few : (from n : ℕ) (acts : List JobAct) → count_from from n (λ r. list_any (enters_row r) acts) ≤ scopes_of_acts acts
@@ -170,35 +164,30 @@ rows_few from n (act ∷ acts) =
         by_kind true = let less = count_more from n (λ r. (r == q) && true) (λ r. r == q) (λ r le e. (and_parts (r == q) _ e).0)
             in let few = count_same from n q in omega (arith, less, few)
         by_kind false = let none = count_none from n (λ r. (r == q) && false) (λ r le. and_right (r == q) false refl) in omega (arith, none)
-    one_row (Start q) = let none = count_none from n (λ r. false) (λ r le. refl) in omega (arith, none)
     one_row other = let none = count_none from n (λ r. false) (λ r le. refl) in omega (arith, none)
 
 -- the row of a scope is behind those of the coroutines
 scope_row : (shape : Shape) (tree : Tree) (who r : ℕ) (act : JobAct) → Needs shape tree who act → enters_row r act ≡ true
     → shape.coroutines ≤ r
-scope_row shape tree who r (Attach p q kind tag cancelled) n e = by_kind kind.scoped n.3 (r == q) refl e
-  where
-    by_kind : (s : Bool) → MatchBool s ((tag ≡ who) × (shape.coroutines ≤ q) × (q < shape.rows)) (q ≡ tag) → (b : Bool) → (r == q) ≡ b
-        → (b && s) ≡ true → shape.coroutines ≤ r
-    by_kind true m true f e = let same = eqb-true r q f in let low = m.1 in omega (arith, same, low)
-    by_kind true m false f e = cc
-    by_kind false m true f e = cc
-    by_kind false m false f e = cc
-scope_row shape tree who r (Start q) n e = cc
+scope_row shape tree who r (Attach p q kind tag cancelled) n e =
+    let both = and_parts (r == q) kind.scoped e in
+    let same = eqb-true r q both.0 in
+    let low = (MatchBool-at_true ((tag ≡ who) × (shape.coroutines ≤ q) × (q < shape.rows)) (q ≡ tag) both.1 n.3).1 in
+    omega (arith, same, low)
 scope_row shape tree who r other n e = cc
+
+-- what one did of a history it did first, or in the rest
+pub first_or_later : (test : JobAct → Bool) (who : ℕ) (x : JobEntry) (es : List JobEntry) → list_any test (acts_of who (x ∷ es)) ≡ true
+    → ((x.who ≡ who) × (test x.act ≡ true)) ⊎ (list_any test (acts_of who es) ≡ true)
+unfolding acts_of
+first_or_later test who x es e = cond_both (x.who == who) (x.act ∷ acts_of who es) (acts_of who es)
+    (λ l. list_any test l ≡ true → ((x.who ≡ who) × (test x.act ≡ true)) ⊎ (list_any test (acts_of who es) ≡ true))
+    (λ own h. ⊎_elim (λ k. inl (eqb-true x.who who own, k)) (λ k. inr k) (or_cases _ _ h)) (λ other h. inr h) e
 
 pub scope_rows : (shape : Shape) (tree : Tree) (es : List JobEntry) (who r : ℕ) → LegalFrom shape tree es
     → list_any (enters_row r) (acts_of who es) ≡ true → shape.coroutines ≤ r
 unfolding LegalFrom acts_of
 scope_rows shape tree [] who r l e = cc
-scope_rows shape tree (x ∷ es) who r l e = by_who (x.who == who) (λ f. scope_rows shape (after tree x.who x.act) es who r l.1 f) e
-  where
-    by_act : (b : Bool) → enters_row r x.act ≡ b → (list_any (enters_row r) (acts_of who es) ≡ true → shape.coroutines ≤ r)
-        → (b || list_any (enters_row r) (acts_of who es)) ≡ true → shape.coroutines ≤ r
-    by_act true f more e = scope_row shape tree x.who r x.act l.0 f
-    by_act false f more e = more e
-
-    by_who : (b : Bool) → (list_any (enters_row r) (acts_of who es) ≡ true → shape.coroutines ≤ r)
-        → list_any (enters_row r) (if b then x.act ∷ acts_of who es else acts_of who es) ≡ true → shape.coroutines ≤ r
-    by_who true more e = by_act (enters_row r x.act) refl more e
-    by_who false more e = more e
+scope_rows shape tree (x ∷ es) who r l e =
+    ⊎_elim (λ k. scope_row shape tree x.who r x.act l.0 k.1) (scope_rows shape (after tree x.who x.act) es who r l.1)
+    (first_or_later (enters_row r) who x es e)

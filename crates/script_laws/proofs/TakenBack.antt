@@ -1,7 +1,7 @@
 -- A wait that was withdrawn or voided stays so.
 use mathlib.Core.List.{IsPrefix}
 use Rattle.std.specs.Prelude.{◌≡◌, ℕ, true, List, [], ◌∷◌, ◌++◌, Option, Some, None, refl}
-use Rattle.std.proofs.Common.{sym, ap, ◌∙◌, subst}
+use Rattle.std.proofs.Common.{sym, ap, ◌∙◌, subst, append_assoc}
 use Rattle.co_base.specs.declared.names.WaitId.{WaitId}
 use Rattle.channel_model.specs.declared.acts.Act.{Act}
 use Rattle.channel_model.specs.declared.acts.Act.TheVariants.{Withdraw}
@@ -68,10 +68,6 @@ withdrawn_wait shape who es us vs w why l e =
     act_withdraws (replay f.before) f.entry.who f.entry.act w why shape f.is (needs_there shape es f.before f.entry f.rest l f.parts) in
     back_later shape (f.before ++ f.entry ∷ []) es w l (
       f.rest,
-      one_more f.before f.entry f.rest
+      append_assoc f.before (f.entry ∷ []) f.rest
           ∙ sym f.parts,
     ) (subst (λ (s : State). IsWithdrawnOrVoided (s.waits w)) (sym (replay_push f.before f.entry)) now)
-  where
-    one_more : (xs : List Entry) (x : Entry) (ys : List Entry) → (xs ++ x ∷ []) ++ ys ≡ xs ++ x ∷ ys
-    one_more [] x ys = refl
-    one_more (z ∷ xs) x ys = ap (λ l. z ∷ l) (one_more xs x ys)

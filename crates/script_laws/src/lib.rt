@@ -5,9 +5,9 @@
 //! - `a_run_is_at_rest`: there `Debts`, `Payments`, `JobPieces`, `JobStories`, `JobDebts`; here `DoneJobsEnded`, `EndedJobsTold`,
 //!   `BelowCancelled`, `FailuresBorne`; `TreesAtRest`.
 //! - `nothing_is_owed_at_the_end`: there `Debts`, `Payments`, `ActsFollowed`, `ChannelStories`; here `ChannelDebts` (what is told of
-//!   channels), `ClosedChannels`, `QueuesFit`, `OffersAdmitted`, `RoomRaised`; `NothingOwed`.
+//!   channels), `ClosedChannels`, `QueuesFit`, `OffersAdmitted`, `RoomRaised`, `OversSpurned`; `NothingOwed`.
 //! - `a_wait_is_given_up_behind_a_cancellation`: there `WaitsTold`; here `TakenBack`; `GivenUpWaits`.
-//! - `nobody_goes_on`: `NobodyGoesOn`.
+//! - `nobody_goes_on`: `MovesFrom` (where each move begins), `NobodyGoesOn`.
 //!
 //! Others show what those who run a script need of all its books: that a coroutine claims what it attached (`RowsEntered`,
 //! `ClaimsAttached`), that a done channel is received from at most once by each coroutine (`DoneAsked`, `DonePlacesAsked`,

@@ -1,9 +1,8 @@
 -- The tallies of all books, added, number the acts of all callers.
-use Rattle.std.specs.Prelude.{◌≡◌, ℕ, ◌+◌, ◌==◌, Bool, true, false, ◌||◌, cond, List, [], ◌∷◌, length, Option, Some, None, refl, if◌then◌else◌, is_some, slice_index_or}
+use Rattle.std.specs.Prelude.{◌≡◌, ℕ, ◌+◌, ◌≤◌, ◌==◌, Bool, true, false, ◌||◌, cond, List, [], ◌∷◌, length, Option, Some, None, refl, if◌then◌else◌, is_some, slice_index_or}
 use Rattle.std.specs.List.{list_any}
-use Rattle.std.proofs.Common.{sym, ap, ◌∙◌, arith}
-use Rattle.std.proofs.Math.Bool.{or-true}
-use Rattle.std.proofs.lemmas.Bool.{false_from_ne_true, both_ways}
+use Rattle.std.proofs.Common.{sym, ap, ◌∙◌, ⊎_elim, arith}
+use Rattle.std.proofs.lemmas.Bool.{false_from_ne_true, both_ways, or_left, or_right, or_cases, cond_both}
 use Rattle.co_base.specs.declared.names.WaitId.{WaitId}
 use Rattle.channel_model.specs.declared.acts.Act.{Act}
 use Rattle.channel_model.specs.declared.acts.Act.TheVariants.{Hand, Put, Offer, Take, Drop, Spurn, Drain, WakeClosed, Withdraw, Settle}
@@ -23,7 +22,9 @@ use Rattle.tally_laws.proofs.Summed.{sum_same}
 use Rattle.tally_laws.proofs.Counting.{count_same}
 use Rattle.tally_laws.proofs.Kept.{replay_kept}
 use Rattle.tally_laws.proofs.FatesOf.{fates_counted}
-use Rattle.tally_laws.proofs.Summing.{NobodyPast, by_callers, sum_over, by_items, item_past}
+use Rattle.tally_laws.proofs.Summing.{sum_over, by_items, item_past}
+use Rattle.tally_laws.proofs.Parted.{by_callers}
+use Rattle.tally_laws.proofs.Printed.{channel_parts}
 use Rattle.tally_laws.proofs.OneWaits.{waits_after, stateless, offers_as, ended_offers}
 use Rattle.tally_laws.proofs.Tracked.{replay_tracked}
 
@@ -32,15 +33,11 @@ use Rattle.tally_laws.proofs.Tracked.{replay_tracked}
 own_any : (f : Act → Bool) (who : ℕ) (es : List Entry) → list_any f (acts_of who es) ≡ true → list_any f (acts_in es) ≡ true
 unfolding acts_of
 own_any f who [] h = cc
-own_any f who (e ∷ es) h = by_test (e.who == who) h (own_any f who es)
-  where
-    later : (b c : Bool) → (b ≡ true → c ≡ true) → (f e.act || b) ≡ true → (f e.act || c) ≡ true
-    later b c k = elim (f e.act) as (λ x. (x || b) ≡ true → (x || c) ≡ true) [ true ↦ λ y. refl | false ↦ k ]
-
-    by_test : (b : Bool) → list_any f (if b then e.act ∷ acts_of who es else acts_of who es) ≡ true
-        → (list_any f (acts_of who es) ≡ true → list_any f (acts_in es) ≡ true) → (f e.act || list_any f (acts_in es)) ≡ true
-    by_test true h k = later _ _ k h
-    by_test false h k = ap (λ b. f e.act || b) (k h) ∙ or-true (f e.act)
+own_any f who (e ∷ es) h =
+    cond_both (e.who == who) (e.act ∷ acts_of who es) (acts_of who es)
+    (λ acts. list_any f acts ≡ true → list_any f (acts_in (e ∷ es)) ≡ true)
+    (λ own q. ⊎_elim (λ t. or_left _ _ t) (λ t. or_right (f e.act) _ (own_any f who es t)) (or_cases (f e.act) _ q))
+    (λ other q. or_right (f e.act) _ (own_any f who es q)) h
 
 -- ---- one caller
 
@@ -86,7 +83,7 @@ tallied_field field add zero_field (book ∷ books) =
     omega arith
 
 module _ (history : List Entry) (books : List (List Item)) (are : AreBooks books history) where
-  nobody_past : NobodyPast (length books) history
+  nobody_past : (k : ℕ) → length books ≤ k → acts_of k history ≡ []
   nobody_past k h = are.parts k ∙ ap channel_acts_in (item_past [] books k h)
 
   own_one : (k : ℕ) → has_one_wait None (acts_of k history) ≡ true
@@ -100,7 +97,7 @@ module _ (history : List Entry) (books : List (List Item)) (are : AreBooks books
       ∙ (sym (by_items (λ book. field (tally_of (channel_acts_in book)).counts) [] books)
       ∙ (sum_same (λ k. field (tally_of (channel_acts_in (slice_index_or books k []))).counts) (λ k. how_many f (acts_of k history))
       (length books) (λ k m. ap (λ acts. field (tally_of acts).counts) (sym (are.parts k)) ∙ own k)
-      ∙ by_callers f (length books) history nobody_past))
+      ∙ by_callers (λ (e : Entry). e.who) (λ (e : Entry). e.act) acts_of channel_parts f (length books) history nobody_past))
 
   -- a field to which each act adds what the test says of it
   plain_total : (field : Counts → ℕ) (f : Act → Bool) → ((x y : Counts) → field (added x y) ≡ field x + field y) → field nothing ≡ 0

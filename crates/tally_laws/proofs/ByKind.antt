@@ -2,7 +2,7 @@
 use Rattle.std.specs.Prelude.{◌≡◌, ℕ, ◌+◌, ◌≤◌, ◌==◌, Bool, true, false, not, ◌&&◌, ◌||◌, cond, List, [], ◌∷◌, length, Option, Some, None, refl, if◌then◌else◌}
 use Rattle.std.specs.List.{list_any}
 use Rattle.std.proofs.Common.{sym, ap, ◌∙◌, arith, ⊎_elim}
-use Rattle.std.proofs.lemmas.Bool.{eqb-true, and_parts, false_from_ne_true, and_from, and_right, both_ways}
+use Rattle.std.proofs.lemmas.Bool.{eqb-true, not-false, and_parts, false_from_ne_true, and_from, and_right, both_ways}
 use Rattle.co_base.specs.declared.names.WaitId.{WaitId}
 use Rattle.channel_model.specs.declared.acts.Act.{Act}
 use Rattle.channel_model.specs.declared.acts.Act.TheVariants.{Hand, Put, Offer, Await, Take, Drop, Spurn, Drain, WakeClosed, Withdraw, Settle}
@@ -39,7 +39,6 @@ is_answer other = false
 
 hand_or_wake : (a : Act) → cond (is_hand a) 1 0 + cond (is_wake a) 1 0 ≡ cond (is_answer a) 1 0
 hand_or_wake (Hand c p v) = omega arith
-hand_or_wake (WakeClosed c p) = omega arith
 hand_or_wake other = omega arith
 
 -- the act settles a wait that was withdrawn
@@ -382,40 +381,30 @@ module _ (shape : Shape) (acts : List Act) (s : State) (k : Kept shape acts s) w
       (w.channel, w.place, r.0, r.1, same_wait-refl w, λ c p h. same_name c p w h)
   withdraw_at other i = λ c p. refl
 
-  settle_withdrawn_at : (a : Act) → IsIn a acts → AtOne (length shape) (places_at shape) (λ c p. list_any (withdraws (name_of c p)) acts
-      && settles_wait (name_of c p) a) (settles_withdrawn acts a)
-  settle_withdrawn_at (Settle w outcome) i =
-      by_one_test (length shape) (places_at shape) (λ c p. list_any (withdraws (name_of c p)) acts
-      && same_wait (name_of c p) w) (list_any (withdraws w) acts)
-      (λ e. let r = withdrawn_place w e in (
+  -- a test of waits and the place of this one's name
+  named_at : (f : WaitId → Bool) (w : WaitId) → (f w ≡ true → IsPlace shape w.channel w.place)
+      → AtOne (length shape) (places_at shape) (λ c p. f (name_of c p) && same_wait (name_of c p) w) (f w)
+  named_at f w there =
+      by_one_test (length shape) (places_at shape) (λ c p. f (name_of c p) && same_wait (name_of c p) w) (f w)
+      (λ e. let r = there e in (
         w.channel,
         w.place,
         r.0,
         r.1,
-        and_from (list_any (withdraws (name_of w.channel w.place)) acts) _
-            (ap (λ v. list_any (withdraws v) acts) (name_is w) ∙ e) (same_wait-refl w),
+        and_from (f (name_of w.channel w.place)) _ (ap f (name_is w) ∙ e) (same_wait-refl w),
         λ c p h. same_name c p w (and_parts _ _ h).1,
       ))
-      (λ e c p. false_from_ne_true _ (λ h. let b = and_parts (list_any (withdraws (name_of c p)) acts) (same_wait (name_of c p) w) h
-      in both_ways _ (ap (λ v. list_any (withdraws v) acts) (same_wait-eq (name_of c p) w b.1) ∙ e) b.0))
+      (λ e c p. false_from_ne_true _ (λ h. let b = and_parts (f (name_of c p)) (same_wait (name_of c p) w) h
+      in both_ways _ (ap f (same_wait-eq (name_of c p) w b.1) ∙ e) b.0))
+
+  settle_withdrawn_at : (a : Act) → IsIn a acts → AtOne (length shape) (places_at shape) (λ c p. list_any (withdraws (name_of c p)) acts
+      && settles_wait (name_of c p) a) (settles_withdrawn acts a)
+  settle_withdrawn_at (Settle w outcome) i = named_at (λ v. list_any (withdraws v) acts) w (withdrawn_place w)
   settle_withdrawn_at other i = λ c p. and_right (list_any (withdraws (name_of c p)) acts) false refl
 
   taken_at : (a : Act) → IsIn a acts → AtOne (length shape) (places_at shape) (λ c p. is_plain_offer acts (name_of c p)
       && withdraws (name_of c p) a) (takes_back acts a)
-  taken_at (Withdraw w why) i =
-      by_one_test (length shape) (places_at shape) (λ c p. is_plain_offer acts (name_of c p)
-      && same_wait (name_of c p) w) (is_plain_offer acts w)
-      (λ e. let r = withdrawn_place w (i (withdraws w) (same_wait-refl w)) in (
-        w.channel,
-        w.place,
-        r.0,
-        r.1,
-        and_from (is_plain_offer acts (name_of w.channel w.place)) _ (ap (is_plain_offer acts) (name_is w)
-            ∙ e) (same_wait-refl w),
-        λ c p h. same_name c p w (and_parts _ _ h).1,
-      ))
-      (λ e c p. false_from_ne_true _ (λ h. let b = and_parts (is_plain_offer acts (name_of c p)) (same_wait (name_of c p) w) h
-      in both_ways _ (ap (is_plain_offer acts) (same_wait-eq (name_of c p) w b.1) ∙ e) b.0))
+  taken_at (Withdraw w why) i = named_at (is_plain_offer acts) w (λ e. withdrawn_place w (i (withdraws w) (same_wait-refl w)))
   taken_at other i = λ c p. and_right (is_plain_offer acts (name_of c p)) false refl
 
   -- ---- plain offers that were taken back
@@ -511,12 +500,7 @@ module _ (shape : Shape) (acts : List Act) (s : State) (k : Kept shape acts s) w
           λ d q h. k.traced.chosen.one d q x.0 x.1 w (chosen_here d q w h) x.2,
         ))
         (k.traced.chosen.known w (k.traced.ended.resolved w (k.settled w (i (settles_wait w) (same_wait-refl w))))))
-        (λ e c p. false_from_ne_true _ (λ h. by_withdrawn (list_any (withdraws w) acts) refl e
-        (k.traced.chosen.apart c p w (chosen_here c p w h))))
-      where
-        by_withdrawn : (b : Bool) → list_any (withdraws w) acts ≡ b → not b ≡ false → (list_any (withdraws w) acts ≡ true → ⊥) → ⊥
-        by_withdrawn true e f h = h e
-        by_withdrawn false e f h = cc
+        (λ e c p. false_from_ne_true _ (λ h. k.traced.chosen.apart c p w (chosen_here c p w h) (not-false (list_any (withdraws w) acts) e)))
     chosen_at other i = λ c p. and_right (list_any (resolver c p) acts) _ (wait_never (wait_at c p acts))
 
     pub chosen_sum : over shape (λ c p. cond (is_chosen_at acts c p) 1 0) ≡ how_many (settles_chosen acts) acts

@@ -26,10 +26,8 @@ count_sum f g h k [] = refl
 count_sum f g h k (x ∷ xs) = let m = count_sum f g h k xs in let a = k x in omega arith
 
 less_by : (a b : Bool) → (a ≡ true → b ≡ true) → cond a 1 0 ≤ cond b 1 0
-less_by true true h = omega arith
-less_by true false h = let e = h refl in cc
-less_by false true h = omega arith
-less_by false false h = omega arith
+less_by true b h = let one : ◌≡◌ {A = ℕ} (cond b 1 0) 1 = ap (λ x. cond x 1 0) (h refl) in omega arith
+less_by false b h = omega arith
 
 pub count_less : {X : Type 0} (f g : X → Bool) → ((x : X) → f x ≡ true → g x ≡ true) → (xs : List X) → how_many f xs ≤ how_many g xs
 count_less f g h [] = omega arith

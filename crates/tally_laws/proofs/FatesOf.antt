@@ -50,74 +50,27 @@ six e false true false false true h a b i y j = absurd (omega arith)
 six e false false true true w h a b i y j = absurd (omega arith)
 six e false false true false true h a b i y j = absurd (omega arith)
 six e false false false true true h a b i y j = absurd (omega arith)
-six true true false false false false h a b i y j = record {
-  received = omega arith;
-  undelivered = omega arith;
-  dropped = omega arith;
-  spurned = omega arith;
-  withdrawn = omega arith;
-  all =
-      omega arith;
-}
-six true false true false false false h a b i y j = record {
-  received = omega arith;
-  undelivered = omega arith;
-  dropped = omega arith;
-  spurned = omega arith;
-  withdrawn = omega arith;
-  all =
-      omega arith;
-}
-six true false false true false false h a b i y j = record {
-  received = omega arith;
-  undelivered = omega arith;
-  dropped = omega arith;
-  spurned = omega arith;
-  withdrawn = omega arith;
-  all =
-      omega arith;
-}
-six true false false false true false h a b i y j = record {
-  received = omega arith;
-  undelivered = omega arith;
-  dropped = omega arith;
-  spurned = omega arith;
-  withdrawn = omega arith;
-  all =
-      omega arith;
-}
+six false true false false false false h a b i y j = let e = a refl in cc
+six false false true false false false h a b i y j = let e = b refl in cc
+six false false false true false false h a b i y j = let e = i refl in cc
+six false false false false true false h a b i y j = let e = y refl in cc
+six false false false false false true h a b i y j = let e = j refl in cc
 six true false false false false true h a b i y j = record {
   received = omega arith;
   undelivered = omega arith;
   dropped = omega arith;
   spurned = omega arith;
   withdrawn = omega arith;
-  all =
-      omega arith;
+  all = omega arith;
 }
-six true false false false false false h a b i y j = record {
+six e r u d x w h a b i y j = record {
   received = omega arith;
   undelivered = omega arith;
   dropped = omega arith;
   spurned = omega arith;
   withdrawn = omega arith;
-  all =
-      omega arith;
+  all = omega arith;
 }
-six false false false false false false h a b i y j = record {
-  received = omega arith;
-  undelivered = omega arith;
-  dropped = omega arith;
-  spurned = omega arith;
-  withdrawn = omega arith;
-  all =
-      omega arith;
-}
-six false true false false false false h a b i y j = let e = a refl in cc
-six false false true false false false h a b i y j = let e = b refl in cc
-six false false false true false false h a b i y j = let e = i refl in cc
-six false false false false true false h a b i y j = let e = y refl in cc
-six false false false false false true h a b i y j = let e = j refl in cc
 
 -- one for each place that passes
 abbrev one : (ℕ → ℕ → Bool) → ℕ → ℕ → ℕ

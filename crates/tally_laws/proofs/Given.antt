@@ -3,7 +3,7 @@
 use Rattle.std.specs.Prelude.{◌≡◌, ℕ, ◌+◌, ◌<◌, ◌≤◌, Bool, true, false, cond, List, [], ◌∷◌, ◌++◌, length, Option, Some, None, refl, ◌⊎◌, is_some, if◌then◌else◌}
 use Rattle.std.specs.List.{list_any}
 use Rattle.std.proofs.Common.{sym, ap, ◌∙◌, subst, arith, inl, inr, ⊎_elim, append_assoc}
-use Rattle.std.proofs.lemmas.Bool.{cases_lt, and_parts}
+use Rattle.std.proofs.lemmas.Bool.{cases_lt, cases_Bool, and_parts}
 use Rattle.co_base.specs.declared.names.WaitId.{WaitId}
 use Rattle.channel_model.specs.declared.acts.Act.{Act}
 use Rattle.channel_model.specs.declared.acts.Act.TheVariants.{Hand, Put, Offer, Await, Take, Admit, Drop, Drain, WakeClosed, Withdraw, Settle}
@@ -17,7 +17,7 @@ use Rattle.channel_model.specs.declared.standing.Resolution.{Resolution}
 use Rattle.channel_model.specs.declared.standing.Resolution.TheVariants as resolved
 use Rattle.channel_model.specs.Channels.{Shape, State, Wait, places_at, same_wait, start}
 use Rattle.channel_model.specs.Effects.{after, put_wait, resolve_first, resolve_holder, resolve_offer, remove_first, with_queue, resolved_wait, name_clause, settled_wait, admitted, holder_at}
-use Rattle.channel_model.specs.Needs.{Needs, MaySettle}
+use Rattle.channel_model.specs.Needs.{Needs, HasPlace, MaySettle}
 use Rattle.channel_model.specs.Outcomes.{IsOutcome, value_given}
 use Rattle.channel_model.specs.Fates.{is_at, hands, wait_at, places_wait, is_value, is_undelivered, settles_value, settles_undelivered}
 use Rattle.channel_model.specs.Laws.{how_many, resolves}
@@ -53,23 +53,18 @@ moved shape c p d q e h =
 next_in_range : (places q n : ℕ) → n < places → q ≡ n → q < places
 next_in_range places q n l e = omega arith
 
+given_there : (shape : Shape) (s : State) (c p d q : ℕ) → d < length shape → HasPlace (places_at shape d) q (s.channels d)
+    → 1 ≤ cond (is_at c p d q) 1 0 → IsPlace shape c p
+given_there shape s c p d q n place h = ⊎_elim
+    (λ e. moved shape c p d q e (n, next_in_range (places_at shape d) q (s.channels d).next place.left place.first))
+    (λ e. let none : ◌≡◌ {A = ℕ} (cond (is_at c p d q) 1 0) 0 = ap (λ b. cond b 1 0) e in absurd (omega arith))
+    (cases_Bool (is_at c p d q))
+
 placed_now : (shape : Shape) (s : State) (who : ℕ) (act : Act) (c p : ℕ) → Needs shape s who act
     → 1 ≤ cond (enters c p act) 1 0 + cond (awaits c p act) 1 0 → IsPlace shape c p
-placed_now shape s who (Put d q v) c p n h = by_test (is_at c p d q) refl h
-  where
-    by_test : (b : Bool) → is_at c p d q ≡ b → 1 ≤ cond b 1 0 + 0 → IsPlace shape c p
-    by_test true e h = moved shape c p d q e (n.0, next_in_range (places_at shape d) q (s.channels d).next n.1.left n.1.first)
-    by_test false e h = absurd (omega arith)
-placed_now shape s who (Offer d q v w k) c p n h = by_test (is_at c p d q) refl h
-  where
-    by_test : (b : Bool) → is_at c p d q ≡ b → 1 ≤ cond b 1 0 + 0 → IsPlace shape c p
-    by_test true e h = moved shape c p d q e (n.0, next_in_range (places_at shape d) q (s.channels d).next n.1.left n.1.first)
-    by_test false e h = absurd (omega arith)
-placed_now shape s who (Await d q w k) c p n h = by_test (is_at c p d q) refl h
-  where
-    by_test : (b : Bool) → is_at c p d q ≡ b → 1 ≤ 0 + cond b 1 0 → IsPlace shape c p
-    by_test true e h = moved shape c p d q e (n.0, next_in_range (places_at shape d) q (s.channels d).next n.1.left n.1.first)
-    by_test false e h = absurd (omega arith)
+placed_now shape s who (Put d q v) c p n h = given_there shape s c p d q n.0 n.1 (omega arith)
+placed_now shape s who (Offer d q v w k) c p n h = given_there shape s c p d q n.0 n.1 (omega arith)
+placed_now shape s who (Await d q w k) c p n h = given_there shape s c p d q n.0 n.1 (omega arith)
 placed_now shape s who other c p n h = absurd (omega arith)
 
 range_after : (shape : Shape) (acts : List Act) (s : State) (who : ℕ) (act : Act) → Needs shape s who act → GivenInRange shape acts
@@ -92,14 +87,12 @@ HandPlace acts w = (c : ℕ) × (p : ℕ) × (wait_at c p acts ≡ Some w) × (l
 given_value : (outcome : Settled) (how : Option Resolution) → IsOutcome outcome how → is_value outcome ≡ true → is_handed how ≡ true
 given_value outcome None h e = absurd h
 given_value (settled.Value k v) (Some how) h e = ap (λ x. is_some (value_given x)) h
-given_value (settled.Sent k) (Some how) h e = cc
 given_value other (Some how) h e = cc
 
 given_undelivered : (outcome : Settled) (how : Option Resolution) → IsOutcome outcome how → is_undelivered outcome ≡ true
     → is_handed how ≡ true
 given_undelivered outcome None h e = absurd h
 given_undelivered (settled.Undelivered v) (Some how) h e = ap is_some h
-given_undelivered (settled.Value k v) (Some how) h e = cc
 given_undelivered other (Some how) h e = cc
 
 settled_handed : (test : Settled → Bool) → ((outcome : Settled) (how : Option Resolution) → IsOutcome outcome how → test outcome ≡ true

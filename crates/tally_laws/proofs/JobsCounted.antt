@@ -3,13 +3,13 @@ use Rattle.std.specs.Prelude.{◌≡◌, ℕ, zero, suc, ◌+◌, ◌<◌, ◌�
 use Rattle.std.specs.List.{list_any, fold, range_with_len}
 use Rattle.std.specs.Option.{option_or}
 use Rattle.std.proofs.Common.{sym, ap, ◌∙◌, arith}
-use Rattle.std.proofs.lemmas.Bool.{eqb-true, and_parts}
+use Rattle.std.proofs.lemmas.Bool.{eqb-true, ne_eqb, and_parts, and_right, true_from_ne_false}
 use Rattle.channel_model.specs.Laws.{how_many}
 use Rattle.channel_fates.proofs.Appended.{none_count}
 use Rattle.job_model.specs.declared.acts.End.{End}
 use Rattle.job_model.specs.declared.acts.End.TheVariants as ends
 use Rattle.job_model.specs.declared.acts.JobAct.{JobAct}
-use Rattle.job_model.specs.declared.acts.JobAct.TheVariants.{Attach, Start, EndBody, Cancel, Finish, Gone}
+use Rattle.job_model.specs.declared.acts.JobAct.TheVariants.{Attach, Finish}
 use Rattle.job_model.specs.declared.acts.JobEntry.{JobEntry}
 use Rattle.job_model.specs.Trees.{Shape, IsShape, Job, Tree, start}
 use Rattle.job_model.specs.Acts.{attaches, finishes}
@@ -49,29 +49,17 @@ abbrev has_end : (End → Bool) → Option End → Bool
 has_end g None = false
 has_end g (Some end) = g end
 
-and_false : (b : Bool) → false ≡ (b && false)
-and_false true = refl
-and_false false = refl
-
 and_true : (b : Bool) → b ≡ (b && true)
 and_true true = refl
 and_true false = refl
 
 attach_at : AtRow attaches attaches_one
 attach_at r (Attach p q kind tag cancelled) = and_true (r == q)
-attach_at r (Start q) = and_false (r == q)
-attach_at r (EndBody q v) = and_false (r == q)
-attach_at r (Cancel q reason) = and_false (r == q)
-attach_at r (Finish q end) = and_false (r == q)
-attach_at r (Gone q) = and_false (r == q)
+attach_at r other = sym (and_right _ false refl)
 
 finish_at : (g : End → Bool) → AtRow (finishes_as g) (finishes_one g)
-finish_at g r (Attach p q kind tag cancelled) = and_false (r == q)
-finish_at g r (Start q) = and_false (r == q)
-finish_at g r (EndBody q v) = and_false (r == q)
-finish_at g r (Cancel q reason) = and_false (r == q)
 finish_at g r (Finish q end) = refl
-finish_at g r (Gone q) = and_false (r == q)
+finish_at g r other = sym (and_right _ false refl)
 
 finish_less : (g : End → Bool) (r : ℕ) (a : JobAct) → finishes_as g r a ≡ true → finishes r a ≡ true
 finish_less g r (Finish q end) e = (and_parts (r == q) _ e).0
@@ -89,28 +77,13 @@ end_once g r (Finish q end ∷ acts) one = by_row (r == q) one (λ few. end_once
         cond (b && g end) 1 0 + how_many (finishes_as g r) acts
     by_row true m k = let less = count_less (finishes_as g r) (finishes r) (finish_less g r) acts in omega (arith, m, less)
     by_row false m k = let few : how_many (finishes r) acts ≤ 1 = omega (arith, m) in let h = k few in omega (arith, h)
-end_once g r (Attach p q kind tag cancelled ∷ acts) one = let h = end_once g r acts (omega (arith, one)) in omega (arith, h)
-end_once g r (Start q ∷ acts) one = let h = end_once g r acts (omega (arith, one)) in omega (arith, h)
-end_once g r (EndBody q v ∷ acts) one = let h = end_once g r acts (omega (arith, one)) in omega (arith, h)
-end_once g r (Cancel q reason ∷ acts) one = let h = end_once g r acts (omega (arith, one)) in omega (arith, h)
-end_once g r (Gone q ∷ acts) one = let h = end_once g r acts (omega (arith, one)) in omega (arith, h)
+end_once g r (other ∷ acts) one = let h = end_once g r acts (omega (arith, one)) in omega (arith, h)
 
 -- ---- counts of entries and of acts
 
 counted_as : (acts : ℕ → JobAct → Bool) (r : ℕ) (es : List JobEntry) → count_of acts r es ≡ how_many (acts r) (acts_in es)
 counted_as acts r [] = refl
-counted_as acts r (e ∷ es) = by_test (acts r e.act) refl (counted_as acts r es)
-  where
-    by_test : (b : Bool) → acts r e.act ≡ b → count_of acts r es ≡ how_many (acts r) (acts_in es)
-        → count_of acts r (e ∷ es) ≡ how_many (acts r) (acts_in (e ∷ es))
-    by_test true f b =
-        let a : count_of acts r (e ∷ es) ≡ 1 + count_of acts r es = count-cons acts r e es true f in
-        let c : ◌≡◌ {A = ℕ} (cond (acts r e.act) 1 0) 1 = ap (λ x. cond x 1 0) f in
-        omega (arith, a, b, c)
-    by_test false f b =
-        let a : count_of acts r (e ∷ es) ≡ 0 + count_of acts r es = count-cons acts r e es false f in
-        let c : ◌≡◌ {A = ℕ} (cond (acts r e.act) 1 0) 0 = ap (λ x. cond x 1 0) f in
-        omega (arith, a, b, c)
+counted_as acts r (e ∷ es) = count-cons acts r e es (acts r e.act) refl ∙ ap (λ n. cond (acts r e.act) 1 0 + n) (counted_as acts r es)
 
 -- ---- sums
 
@@ -143,26 +116,20 @@ completed_step n None = omega arith
 completed_step n (Some j) = by_end (end_at (Some j))
   where
     by_end : (o : Option End) → (with_job n o).completed ≡ n.completed + cond (has_end is_completed o) 1 0
-    by_end None = omega arith
     by_end (Some (ends.Completed v)) = refl
-    by_end (Some (ends.Cancelled cause)) = omega arith
+    by_end other = omega arith
 
 cancelled_step : (n : _) (x : Option Job) → (with_row_of with_job n x).cancelled ≡ n.cancelled + cond (has_end is_cancelled (end_at x)) 1 0
 cancelled_step n None = omega arith
 cancelled_step n (Some j) = by_end (end_at (Some j))
   where
     by_end : (o : Option End) → (with_job n o).cancelled ≡ n.cancelled + cond (has_end is_cancelled o) 1 0
-    by_end None = omega arith
-    by_end (Some (ends.Completed v)) = omega arith
     by_end (Some (ends.Cancelled cause)) = refl
+    by_end other = omega arith
 
 -- the sum of what only the root's row has
 root_once : (n : ℕ) → 0 < n → sum_below (λ r. cond (r == 0) 1 0) n ≡ 1
-root_once n l = sum_at (λ r. cond (r == 0) 1 0) n 0 l (λ i m a. by_test i (i == 0) refl a)
-  where
-    by_test : (i : ℕ) (b : Bool) → (i == 0) ≡ b → (i ≡ 0 → ⊥) → ◌≡◌ {A = ℕ} (cond b 1 0) 0
-    by_test i true e a = absurd (a (eqb-true i 0 e))
-    by_test i false e a = refl
+root_once n l = sum_at (λ r. cond (r == 0) 1 0) n 0 l (λ i m a. ap (λ b. cond b 1 0) (ne_eqb i 0 a))
 
 -- ---- all rows
 
@@ -188,11 +155,9 @@ module _ (shape : Shape) (jobs : List JobEntry) (s : IsShape shape) (l : Legal s
       by_root false e = let z = any_one (attaches r) (acts_in jobs) (few_attach r) in omega (arith, z)
 
   attach_low : (r : ℕ) → 1 ≤ how_many (attaches r) (acts_in jobs) → r < shape.rows
-  attach_low r h = attached_within shape jobs r s l (by_some (is_some (replay jobs r)) (attached_row r))
-    where
-      by_some : (b : Bool) → cond b 1 0 ≡ cond (r == 0) 1 0 + how_many (attaches r) (acts_in jobs) → b ≡ true
-      by_some true e = refl
-      by_some false e = absurd (omega (arith, e, h))
+  attach_low r h = attached_within shape jobs r s l (true_from_ne_false (is_some (replay jobs r))
+      (λ e. let none : ◌≡◌ {A = ℕ} (cond (is_some (replay jobs r)) 1 0) 0 = ap (λ b. cond b 1 0) e in let here = attached_row r
+      in omega (arith, none, here, h)))
 
   ended_some : (x : Option Job) → has_ended x ≡ true → is_some x ≡ true
   ended_some None e = cc
@@ -201,14 +166,10 @@ module _ (shape : Shape) (jobs : List JobEntry) (s : IsShape shape) (l : Legal s
   finish_low : (g : End → Bool) (r : ℕ) → 1 ≤ how_many (finishes_as g r) (acts_in jobs) → r < shape.rows
   finish_low g r h =
       attached_within shape jobs r s l (ended_some (replay jobs r) ((by_entries shape jobs r l).ended
-      ∙ (any_mapped (finishes r) jobs ∙ by_any (list_any (finishes r) (acts_in jobs)) refl)))
-    where
-      by_any : (b : Bool) → list_any (finishes r) (acts_in jobs) ≡ b → b ≡ true
-      by_any true e = refl
-      by_any false e =
-          let a = none_count (finishes r) (acts_in jobs) e in
-          let b = count_less (finishes_as g r) (finishes r) (finish_less g r) (acts_in jobs) in
-          absurd (omega (arith, a, b, h))
+      ∙ (any_mapped (finishes r) jobs ∙ true_from_ne_false (list_any (finishes r) (acts_in jobs)) (λ e.
+      let a = none_count (finishes r) (acts_in jobs) e in
+      let b = count_less (finishes_as g r) (finishes r) (finish_less g r) (acts_in jobs) in
+      omega (arith, a, b, h)))))
 
   members : SameMembers (acts_in jobs) (acts_in jobs)
   members = record { to = λ x m. m; back = λ x m. m }

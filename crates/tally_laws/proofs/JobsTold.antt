@@ -3,7 +3,8 @@ use Rattle.std.specs.Prelude.{◌≡◌, ℕ, ◌==◌, ◌⊎◌, Bool, true, f
 use Rattle.std.specs.List.{list_any, fold, range_with_len}
 use Rattle.std.specs.Option.{option_or}
 use Rattle.std.proofs.Common.{ap, sym, ◌∙◌, inl, inr, ⊎_elim}
-use Rattle.std.proofs.lemmas.Bool.{eqb-true, or_right, and_right}
+use Rattle.std.proofs.lemmas.Bool.{eqb-true, or_right, and_right, false_from_ne_true}
+use Rattle.std.proofs.lemmas.Option.{cond_some}
 use Rattle.std.proofs.Math.Bool.{or-false}
 use lib.Chars.{codes}
 use Rattle.job_model.specs.declared.acts.End.{End}
@@ -79,11 +80,7 @@ finished_as who (ends.Cancelled cause) other j e = cc
 
 -- an act that ends the Job of a row is its Finish
 ends_by_finish : (r : ℕ) (act : JobAct) (end : End) → ends_as r act ≡ Some end → finishes r act ≡ true
-ends_by_finish r (Finish q other) end e = by_row (r == q) e
-  where
-    by_row : (b : Bool) → (if b then Some other else None) ≡ Some end → b ≡ true
-    by_row true k = refl
-    by_row false k = cc
+ends_by_finish r (Finish q other) end e = (cond_some (r == q) other end e).0
 ends_by_finish r other end e = cc
 
 step_ends : (shape : Shape) (tree : Tree) (who q : ℕ) (act : JobAct) (x y : Option Job) (end : End) → RowStep shape tree who q act x y
@@ -143,7 +140,6 @@ body_shown other lazy begun stopped bodiless n h = h
 started_shown : (s : JobState) (lazy begun stopped bodiless : Bool) → s ≡ New → Shows lazy begun stopped bodiless s
     → Shows lazy true stopped bodiless Active
 started_shown New lazy begun stopped bodiless e h = (and_right lazy false refl, h.2, h.3)
-started_shown Active lazy begun stopped bodiless e h = cc
 started_shown other lazy begun stopped bodiless e h = cc
 
 ended_shown : (lazy begun stopped bodiless : Bool) (end : End) → Shows lazy begun stopped bodiless (state_of_end end)
@@ -177,12 +173,9 @@ row_shown : (shape : Shape) (tree : Tree) (who q : ℕ) (act : JobAct) (x y : Op
 row_shown shape tree who q _ _ _ lazy begun stopped bodiless (RowStep.is_attached p kind tag cancelled m i) is h =
     rw (h.0, h.1, h.2, h.3, same q) (first_shown cancelled kind.lazy)
 row_shown shape tree who q _ _ _ lazy begun stopped bodiless (RowStep.has_child r kind tag cancelled j none m) is h =
-    unshown q (Attach q r kind tag cancelled) lazy begun stopped bodiless (Some j) (ap (λ b. b && kind.lazy) (another (q == r) refl)) refl
-    (ap (λ b. b && cancelled) (another (q == r) refl)) refl h
-  where
-    another : (b : Bool) → (q == r) ≡ b → b ≡ false
-    another true e = let k : Some j ≡ None = sym is ∙ ap tree (eqb-true q r e) ∙ none in cc
-    another false e = refl
+    let another = false_from_ne_true (q == r) (λ e. let k : Some j ≡ None = sym is ∙ ap tree (eqb-true q r e) ∙ none in cc) in
+    unshown q (Attach q r kind tag cancelled) lazy begun stopped bodiless (Some j) (ap (λ b. b && kind.lazy) another) refl
+    (ap (λ b. b && cancelled) another) refl h
 row_shown shape tree who q _ _ _ lazy begun stopped bodiless (RowStep.is_started j n) is h =
     rw (or-false lazy, or-false stopped, or-false bodiless, same q, or_right begun true refl)
     (started_shown j.state lazy begun stopped bodiless n h)
@@ -244,11 +237,8 @@ noted_end r (a ∷ acts) end e = by_first (ends_as r a) refl (λ k. noted_end r 
     by_first (Some u) q more h = (a, inl refl, q ∙ h)
 
 ends_nothing : (r : ℕ) (act : JobAct) → ends_as r act ≡ None → finishes r act ≡ false
-ends_nothing r (Finish q end) e = by_row (r == q) e
-  where
-    by_row : (b : Bool) → (if b then Some end else None) ≡ None → b ≡ false
-    by_row true k = cc
-    by_row false k = refl
+ends_nothing r (Finish q end) e = false_from_ne_true (r == q) (λ k. let both : Some end ≡ None =
+    sym (ap (λ b. if b then Some end else None) k) ∙ e in cc)
 ends_nothing r other e = refl
 
 none_noted : (r : ℕ) (acts : List JobAct) → end_noted r acts ≡ None → list_any (finishes r) acts ≡ false
@@ -265,12 +255,9 @@ not_ended None e = refl
 not_ended (Some j) e = by_state j.state e
   where
     by_state : (s : JobState) → is_ended s ≡ false → end_by s j ≡ None
-    by_state New e = refl
-    by_state Active e = refl
-    by_state Completing e = refl
-    by_state Cancelling e = refl
     by_state Cancelled e = cc
     by_state Completed e = cc
+    by_state other e = refl
 
 fold_same : {A B : Type 0} (f g : A → B → A) → ((a : A) (b : B) → f a b ≡ g a b) → (bs : List B) (a : A) → fold f a bs ≡ fold g a bs
 fold_same f g e [] a = refl

@@ -58,7 +58,6 @@ told_first : (o : Option WaitId) (t : Told) (more : List Told) → is_waitless (
 unfolding items_in
 told_first o (note (item.Channel n)) more q h = ap (λ l. has_one_wait o (l ++ channel_acts_in (items_in more))) (act_of_note n)
     ∙ (waitless o (act_in_note n) (channel_acts_in (items_in more)) q ∙ h)
-told_first o (note (item.Job n)) more q h = h
 told_first o other more q h = h
 
 told_one : (o o' : Option WaitId) (told : List Told) → WaitsTold o told o' → has_one_wait o (channel_acts_in (items_in told)) ≡ true

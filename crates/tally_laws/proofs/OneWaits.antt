@@ -90,27 +90,23 @@ SettledEnd ends acts = (w : WaitId) → list_any (settles_wait w) acts ≡ true 
 later : (ends : WaitId → Bool) (a : Act) (acts : List Act) → SettledEnd ends (a ∷ acts) → SettledEnd ends acts
 later ends a acts h w e = h w (ap (λ b. settles_wait w a || b) e ∙ or-true (settles_wait w a))
 
+one_more : (b : Bool) (n : ℕ) → cond b (n + 1) 0 ≡ cond b n 0 + cond b 1 0
+one_more true n = refl
+one_more false n = refl
+
+of_none : (b : Bool) (n : ℕ) → n ≡ 0 → cond b n 0 ≡ 0
+of_none true n h = h
+of_none false n h = refl
+
 offered_then : (ends : WaitId → Bool) (o : Option WaitId) (w : WaitId) (n : ℕ) → OpenFits o n → may_name w o ≡ true
     → cond (ends w) (n + 1) 0 ≡ owed ends o n + cond (ends w) 1 0
-offered_then ends None w n h e = by_test (ends w)
-  where
-    by_test : (b : Bool) → cond b (n + 1) 0 ≡ 0 + cond b 1 0
-    by_test true = omega arith
-    by_test false = omega arith
+offered_then ends None w n h e = one_more (ends w) n ∙ ap (λ m. m + cond (ends w) 1 0) (of_none (ends w) n h)
 offered_then ends (Some u) w n h e = subst (λ x. cond (ends w) (n + 1) 0 ≡ cond (ends x) n 0 + cond (ends w) 1 0) (same_wait-eq w u e)
-    (by_test (ends w))
-  where
-    by_test : (b : Bool) → cond b (n + 1) 0 ≡ cond b n 0 + cond b 1 0
-    by_test true = omega arith
-    by_test false = omega arith
+    (one_more (ends w) n)
 
 awaited_then : (ends : WaitId → Bool) (o : Option WaitId) (w : WaitId) (n : ℕ) → OpenFits o n → may_name w o ≡ true
     → cond (ends w) n 0 ≡ owed ends o n
-awaited_then ends None w n h e = by_test (ends w) h
-  where
-    by_test : (b : Bool) → n ≡ 0 → cond b n 0 ≡ 0
-    by_test true h = h
-    by_test false h = refl
+awaited_then ends None w n h e = of_none (ends w) n h
 awaited_then ends (Some u) w n h e = subst (λ x. cond (ends w) n 0 ≡ cond (ends x) n 0) (same_wait-eq w u e) refl
 
 settled_then : (ends : WaitId → Bool) (o : Option WaitId) (w : WaitId) (n : ℕ) → is_wait w o ≡ true → ends w ≡ true → owed ends o n ≡ n

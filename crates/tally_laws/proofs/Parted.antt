@@ -41,7 +41,7 @@ module _ {A E : Type 0} (who : E → ℕ) (act : E → A) (part : ℕ → List E
       by_test false x = x
 
   -- the acts of all callers that pass, caller by caller
-  by_callers : (n : ℕ) (es : List E) → NobodyPast n es → sum_below (λ k. how_many f (part k es)) n ≡ how_many f (map act es)
+  pub by_callers : (n : ℕ) (es : List E) → NobodyPast n es → sum_below (λ k. how_many f (part k es)) n ≡ how_many f (map act es)
   by_callers n [] h = sum_none (λ k. how_many f (part k [])) n (λ i l. ap (how_many f) (p.none i))
   by_callers n (e ∷ es) h =
       sum_same (λ k. how_many f (part k (e ∷ es))) (λ k. cond (who e == k) (cond (f (act e)) 1 0) 0 + how_many f (part k es)) n

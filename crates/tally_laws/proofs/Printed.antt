@@ -20,7 +20,7 @@ use Rattle.tally_laws.proofs.JobsTold.{jobs_told}
 
 -- the books of a run have the acts of its histories
 
-channel_parts : IsPart (λ (e : Entry). e.who) (λ (e : Entry). e.act) acts_of
+pub channel_parts : IsPart (λ (e : Entry). e.who) (λ (e : Entry). e.act) acts_of
 unfolding acts_of
 channel_parts = record { none = λ k. refl; more = λ k e es. refl }
 

@@ -4,7 +4,7 @@ use Rattle.std.specs.List.{list_any}
 use Rattle.std.proofs.Common.{ap, sym, ◌∙◌, arith, inl, inr, ⊎_elim}
 use Rattle.co_base.specs.declared.names.WaitId.{WaitId}
 use Rattle.channel_model.specs.declared.acts.Act.{Act}
-use Rattle.channel_model.specs.declared.acts.Act.TheVariants.{Hand, Put, Offer, Await, Take}
+use Rattle.channel_model.specs.declared.acts.Act.TheVariants.{Hand, Put, Offer, Await}
 use Rattle.channel_model.specs.declared.acts.Entry.{Entry}
 use Rattle.channel_model.specs.Channels.{Shape}
 use Rattle.channel_model.specs.Histories.{replay, acts_in, Legal}
@@ -87,22 +87,15 @@ brings_less : (c p : ℕ) (a : Act) → cond (is_some (brings c p a)) 1 0 ≤ co
 brings_less c p (Hand d q v) = omega (arith, ap {B = ℕ} (λ b. cond b 1 0) (some_if (is_at c p d q) v))
 brings_less c p (Put d q v) = omega (arith, ap {B = ℕ} (λ b. cond b 1 0) (some_if (is_at c p d q) v))
 brings_less c p (Offer d q v w k) = omega (arith, ap {B = ℕ} (λ b. cond b 1 0) (some_if (is_at c p d q) v))
-brings_less c p (Await d q w k) = omega arith
 brings_less c p other = omega arith
 
 places_less : (c p : ℕ) (a : Act) → cond (is_some (places_wait c p a)) 1 0 ≤ cond (awaits c p a) 1 0 + cond (enters c p a) 1 0
-places_less c p (Hand d q v) = omega arith
-places_less c p (Put d q v) = omega arith
 places_less c p (Offer d q v w k) = omega (arith, ap {B = ℕ} (λ b. cond b 1 0) (some_if (is_at c p d q) w))
 places_less c p (Await d q w k) = omega (arith, ap {B = ℕ} (λ b. cond b 1 0) (some_if (is_at c p d q) w))
-places_less c p (Take d q v) = omega arith
 places_less c p other = omega arith
 
 offers_less : (c p : ℕ) (a : Act) → cond (is_some (offers_at c p a)) 1 0 ≤ cond (awaits c p a) 1 0 + cond (enters c p a) 1 0
-offers_less c p (Hand d q v) = omega arith
-offers_less c p (Put d q v) = omega arith
 offers_less c p (Offer d q v w k) = omega (arith, ap {B = ℕ} (λ b. cond b 1 0) (some_if (is_at c p d q) k))
-offers_less c p (Await d q w k) = omega arith
 offers_less c p other = omega arith
 
 -- ---- the words on fates

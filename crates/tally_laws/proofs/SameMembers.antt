@@ -2,7 +2,7 @@
 use Rattle.std.specs.Prelude.{◌≡◌, ℕ, zero, suc, ◌==◌, ◌⊎◌, Bool, true, false, ◌||◌, List, [], ◌∷◌, ◌++◌, map, refl, slice_index_or, if◌then◌else◌}
 use Rattle.std.specs.List.{list_any}
 use Rattle.std.proofs.Common.{ap, sym, ◌∙◌, subst, inl, inr, ⊎_elim}
-use Rattle.std.proofs.lemmas.Bool.{eq-eqb, or_right}
+use Rattle.std.proofs.lemmas.Bool.{eq-eqb, or_cases, or_right, cond_both}
 use Rattle.channel_model.proofs.Causes.{same_truth}
 
 -- x is one of these
@@ -19,12 +19,7 @@ pub record SameMembers {A : Type 0} (xs ys : List A) : Type 0 where
 pub any_among : {A : Type 0} (f : A → Bool) (xs : List A) → list_any f xs ≡ true → (x : A) × Among x xs × (f x ≡ true)
 unfolding Among
 any_among f [] h = cc
-any_among f (x ∷ xs) h = by_test (f x) refl (λ k. any_among f xs k) h
-  where
-    by_test : (b : Bool) → f x ≡ b → (list_any f xs ≡ true → (y : _) × Among y xs × (f y ≡ true)) → (b || list_any f xs) ≡ true → (y : _)
-        × ((y ≡ x) ⊎ Among y xs) × (f y ≡ true)
-    by_test true e more h = (x, inl refl, e)
-    by_test false e more h = let r = more h in (r.0, inr r.1, r.2)
+any_among f (x ∷ xs) h = ⊎_elim (λ e. (x, inl refl, e)) (λ k. let r = any_among f xs k in (r.0, inr r.1, r.2)) (or_cases (f x) _ h)
 
 pub among_any : {A : Type 0} (f : A → Bool) (xs : List A) (x : A) → Among x xs → f x ≡ true → list_any f xs ≡ true
 unfolding Among
@@ -91,12 +86,10 @@ module _ {A E B : Type 0} (who : E → ℕ) (act : E → A) (part : ℕ → List
   in_history : (x : A) (k : ℕ) (history : List E) → Among x (part k history) → Among x (map act history)
   unfolding Among
   in_history x k [] m = subst (Among x) (p.none k) m
-  in_history x k (e ∷ es) m = by_test (who e == k) (λ n. in_history x k es n) (subst (Among x) (p.more k e es) m)
-    where
-      by_test : (b : Bool) → (Among x (part k es) → Among x (map act es)) → Among x (if b then act e ∷ part k es else part k es)
-          → (x ≡ act e) ⊎ Among x (map act es)
-      by_test true rest n = ⊎_elim (λ q. inl q) (λ more. inr (rest more)) n
-      by_test false rest n = inr (rest n)
+  in_history x k (e ∷ es) m =
+      cond_both (who e == k) (act e ∷ part k es) (part k es) (λ l. Among x l → (x ≡ act e) ⊎ Among x (map act es))
+      (λ own n. ⊎_elim (λ q. inl q) (λ more. inr (in_history x k es more)) n) (λ other n. inr (in_history x k es n))
+      (subst (Among x) (p.more k e es) m)
 
   in_all : (x : A) (k : ℕ) (books : List B) → Among x (noted (slice_index_or books k empty)) → Among x (all books)
   in_all x k [] m = subst (Among x) (nothing ∙ sym j.none) m

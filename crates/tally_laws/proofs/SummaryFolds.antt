@@ -69,58 +69,28 @@ channels_field field g step e c n (x ∷ channels) =
     omega arith
 
 received_step : (n : _) (x : Option (ℕ × Fate)) → (with_place n x).received ≡ n.received + fated fate.Received x
-received_step n None = omega arith
 received_step n (Some (v, fate.Received)) = refl
-received_step n (Some (v, fate.Undelivered)) = omega arith
-received_step n (Some (v, fate.Dropped)) = omega arith
-received_step n (Some (v, fate.Spurned)) = omega arith
-received_step n (Some (v, fate.Withdrawn)) = omega arith
-received_step n (Some (v, fate.Held)) = omega arith
+received_step n other = omega arith
 
 undelivered_step : (n : _) (x : Option (ℕ × Fate)) → (with_place n x).undelivered ≡ n.undelivered + fated fate.Undelivered x
-undelivered_step n None = omega arith
-undelivered_step n (Some (v, fate.Received)) = omega arith
 undelivered_step n (Some (v, fate.Undelivered)) = refl
-undelivered_step n (Some (v, fate.Dropped)) = omega arith
-undelivered_step n (Some (v, fate.Spurned)) = omega arith
-undelivered_step n (Some (v, fate.Withdrawn)) = omega arith
-undelivered_step n (Some (v, fate.Held)) = omega arith
+undelivered_step n other = omega arith
 
 dropped_step : (n : _) (x : Option (ℕ × Fate)) → (with_place n x).dropped ≡ n.dropped + fated fate.Dropped x
-dropped_step n None = omega arith
-dropped_step n (Some (v, fate.Received)) = omega arith
-dropped_step n (Some (v, fate.Undelivered)) = omega arith
 dropped_step n (Some (v, fate.Dropped)) = refl
-dropped_step n (Some (v, fate.Spurned)) = omega arith
-dropped_step n (Some (v, fate.Withdrawn)) = omega arith
-dropped_step n (Some (v, fate.Held)) = omega arith
+dropped_step n other = omega arith
 
 spurned_step : (n : _) (x : Option (ℕ × Fate)) → (with_place n x).spurned ≡ n.spurned + fated fate.Spurned x
-spurned_step n None = omega arith
-spurned_step n (Some (v, fate.Received)) = omega arith
-spurned_step n (Some (v, fate.Undelivered)) = omega arith
-spurned_step n (Some (v, fate.Dropped)) = omega arith
 spurned_step n (Some (v, fate.Spurned)) = refl
-spurned_step n (Some (v, fate.Withdrawn)) = omega arith
-spurned_step n (Some (v, fate.Held)) = omega arith
+spurned_step n other = omega arith
 
 withdrawn_step : (n : _) (x : Option (ℕ × Fate)) → (with_place n x).withdrawn ≡ n.withdrawn + fated fate.Withdrawn x
-withdrawn_step n None = omega arith
-withdrawn_step n (Some (v, fate.Received)) = omega arith
-withdrawn_step n (Some (v, fate.Undelivered)) = omega arith
-withdrawn_step n (Some (v, fate.Dropped)) = omega arith
-withdrawn_step n (Some (v, fate.Spurned)) = omega arith
 withdrawn_step n (Some (v, fate.Withdrawn)) = refl
-withdrawn_step n (Some (v, fate.Held)) = omega arith
+withdrawn_step n other = omega arith
 
 held_step : (n : _) (x : Option (ℕ × Fate)) → (with_place n x).held ≡ n.held + fated fate.Held x
-held_step n None = omega arith
-held_step n (Some (v, fate.Received)) = omega arith
-held_step n (Some (v, fate.Undelivered)) = omega arith
-held_step n (Some (v, fate.Dropped)) = omega arith
-held_step n (Some (v, fate.Spurned)) = omega arith
-held_step n (Some (v, fate.Withdrawn)) = omega arith
 held_step n (Some (v, fate.Held)) = refl
+held_step n other = omega arith
 
 -- ---- the elements of all acts
 

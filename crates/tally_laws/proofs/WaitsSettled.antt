@@ -1,10 +1,9 @@
 -- Where nobody can go on, each wait that was resolved is settled.
-use Rattle.std.proofs.Common.{◌≡◌, ℕ, ◌≤◌, Bool, true, false, List, [], length, Option, Some, None, refl, ap, sym, ◌∙◌, subst, arith, is_some}
-use Rattle.std.specs.Prelude.{nat_lt}
+use Rattle.std.proofs.Common.{◌≡◌, ℕ, ◌≤◌, true, false, List, [], Option, Some, None, refl, ap, sym, ◌∙◌, subst, arith, ⊎_elim, is_some}
+use Rattle.std.proofs.lemmas.Bool.{both_ways, cases_lt}
 use Rattle.co_base.specs.declared.names.WaitId.{WaitId}
 use Rattle.channel_model.specs.declared.acts.Entry.{Entry}
 use Rattle.channel_model.specs.declared.acts.Settled.{Settled}
-use Rattle.channel_model.specs.declared.standing.Resolution.{Resolution}
 use Rattle.channel_model.specs.Channels.{Shape, State, Wait}
 use Rattle.channel_model.specs.Needs.{IsOpenOf}
 use Rattle.channel_model.specs.Answers.{IsUnsettledOf, IsResolvedWait, IsSettledWait}
@@ -15,7 +14,6 @@ use Rattle.note_book.specs.declared.book.Item.{Item}
 use Rattle.note_book.specs.Items.{channel_acts_in}
 use Rattle.script_grammar.specs.Programs.{Program}
 use Rattle.script_grammar.specs.Tags.{coroutine_count}
-use Rattle.script_grammar.proofs.Truths.{lt-from_true, le-from_lt_false}
 use Rattle.script_meaning.specs.declared.stage.Stage.{Stage}
 use Rattle.script_meaning.specs.declared.stage.Stage.TheVariants.{Fresh, Waiting, Leaving, Ended}
 use Rattle.script_meaning.specs.Shapes.{floor_shape}
@@ -51,27 +49,22 @@ pub none_lost : (p : Program) (books : List (List Item)) (channels : List Entry)
     → IsSettledWait ((replay channels).waits w)
 none_lost p books channels jobs of root idle w h = by_wait ((replay channels).waits w) refl h
   where
-    open_at : (k : ℕ) (b : Bool) → nat_lt k (coroutine_count p) ≡ b → IsUnsettledOf k ((replay channels).waits w)
-        → IsOpenOf k ((replay channels).waits w)
-    open_at k true e u =
-        left_open k (of.ends_at k) (book_at k books) (replay channels) jobs w (of.ends_at k).stage
-        (idle.left k (lt-from_true k (coroutine_count p) e))
-        (λ none. no_wait (floor_shape p) channels k w of.legal_channels (of.channel_parts k ∙ ap channel_acts_in none) u) u
-    open_at k false e u =
-        let past : length books ≤ k = omega (arith, of.count, le-from_lt_false k (coroutine_count p) e) in
-        absurd (no_wait (floor_shape p) channels k w of.legal_channels (of.channel_parts k ∙ ap channel_acts_in (no_book books k past)) u)
-
-    not_both : (how : Option Resolution) → is_some how ≡ true → how ≡ None → ⊥
-    not_both None e n = cc
-    not_both (Some how) e n = cc
+    open_at : (k : ℕ) → IsUnsettledOf k ((replay channels).waits w) → IsOpenOf k ((replay channels).waits w)
+    open_at k u =
+        let never : book_at k books ≡ [] → ⊥ = λ none. no_wait (floor_shape p) channels k w of.legal_channels (of.channel_parts k
+        ∙ ap channel_acts_in none) u in
+        ⊎_elim
+        (λ l. left_open k (of.ends_at k) (book_at k books) (replay channels) jobs w (of.ends_at k).stage (idle.left k l) never u)
+        (λ l. absurd (never (no_book books k (omega (arith, of.count, l)))))
+        (cases_lt k (coroutine_count p))
 
     by_settled : (x : Wait) → (replay channels).waits w ≡ Some x → is_some x.resolved ≡ true → (o : Option Settled) → x.settled ≡ o
         → is_some o ≡ true
     by_settled x e r (Some outcome) q = refl
     by_settled x e r None q =
         let u : IsUnsettledOf x.owner ((replay channels).waits w) = subst (IsUnsettledOf x.owner) (sym e) (refl, q) in
-        let open_one = subst (IsOpenOf x.owner) e (open_at x.owner (nat_lt x.owner (coroutine_count p)) refl u) in
-        absurd (not_both x.resolved r open_one.1)
+        let open_one = subst (IsOpenOf x.owner) e (open_at x.owner u) in
+        absurd (both_ways (is_some x.resolved) (ap is_some open_one.1) r)
 
     by_wait : (o : Option Wait) → (replay channels).waits w ≡ o → IsResolvedWait o → IsSettledWait o
     by_wait None e r = absurd r

@@ -11,8 +11,8 @@
 //! - `fates_are_counted_by_kinds_of_acts`: `Summed`, `Counting` (sums over places, and acts that belong to one place each); `Given` and
 //!   `Kept` (what a legal history keeps of places and waits); `Shares` (one place); `ByKind` (all places, kind by kind); `FatesOf`;
 //!   `Declared` (behind the declared channels nothing is counted).
-//! - `tallies_of_books_give_the_counts_of_fates`: `Summing` (all callers); `OneWaits` and `Tracked` (one caller, act by act); `Books`;
-//!   `Declared`.
+//! - `tallies_of_books_give_the_counts_of_fates`: `Summing` (sums over callers and over lists); `Parted` (all callers); `OneWaits` and
+//!   `Tracked` (one caller, act by act); `Books`; `Declared`.
 //! - `a_coroutine_has_one_wait_at_a_time`: `OneAtATime`, from what `script_meaning` shows of all that a coroutine tells.
 //! - `a_run_is_tallied_book_by_book`: `Tallied`.
 //! - `tallies_give_the_elements_of_the_summary`: `SummaryFolds` (the folds of the summary are sums over places).
