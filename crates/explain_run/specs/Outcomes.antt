@@ -1,12 +1,12 @@
 -- What each outcome of a call says of the words, of what was read and of what was written.
 use Rattle.std.specs.Prelude.{◌≡◌, ℕ, Bool, true, false, List, Option, Some, None, Result, Ok, Err, String, Vec, map, string_bytes}
 use Rattle.std.specs.Global.{Global}
-use Rattle.std.specs.Vec.Iter.{into_iter_items}
 use Rattle.std.specs.declared.vec.IntoIter.{IntoIter}
 use Rattle.co_base.specs.Streams.{Rose, Gave, GaveJust, IsDrained, Took, TookPart}
 use Rattle.run_explanation.specs.Answers.{IsExplained, Refuses}
 use Rattle.run_explanation.specs.declared.answer.Unexplained.{Unexplained}
 use Rattle.run_explanation.specs.declared.answer.Unexplained.TheVariants as faults
+use Rattle.program_input.specs.Arguments.{arguments_given}
 use Rattle.explain_run.specs.declared.outcome.Outcome.{Outcome}
 use Rattle.explain_run.specs.declared.outcome.Outcome.TheVariants as outcomes
 use Rattle.explain_run.specs.declared.outcome.Message.{Message}
@@ -107,11 +107,6 @@ abbrev pub IsWritten : Outcome → List ℕ → Stream → Stream → Type 0
 IsWritten outcomes.Explained text sink sink' = Took sink.bytes sink'.bytes text
 IsWritten outcomes.WriteFault text sink sink' = Rose sink.faults sink'.faults × TookPart text sink.bytes sink'.bytes
 IsWritten other text sink sink' = ⊥
-
--- the arguments that the system gives; where one is no text it gives none
-abbrev pub arguments_given : {E : Type 0} → Result (IntoIter (String Global) Global) E → Option (List (String Global))
-arguments_given (Ok arguments) = Some (into_iter_items arguments)
-arguments_given (Err error) = None
 
 abbrev pub asked_by : Option (List (String Global)) → Bool
 asked_by None = false

@@ -1,2 +1,1 @@
-mod Matched
 mod Meaning

@@ -1,7 +1,6 @@
 -- What each outcome of a call says of the words, of what was read and of what was written.
 use Rattle.std.specs.Prelude.{◌≡◌, ℕ, true, List, Option, Some, None, Result, Ok, Err, String, is_some, map, string_bytes}
 use Rattle.std.specs.Global.{Global}
-use Rattle.std.specs.Vec.Iter.{into_iter_items}
 use Rattle.std.specs.declared.vec.IntoIter.{IntoIter}
 use Rattle.co_base.specs.Streams.{Rose, Gave, GaveJust, IsDrained, Took, TookPart}
 use Rattle.job_model.specs.Trees.{Shape}
@@ -22,6 +21,7 @@ use Rattle.log_check.specs.declared.verdict.ReportVerdict.TheVariants as of_repo
 use Rattle.log_check.specs.declared.verdict.ScriptVerdict.{ScriptVerdict}
 use Rattle.log_check.specs.declared.verdict.ScriptVerdict.TheVariants as of_script
 use Rattle.log_check.specs.Verdicts.{IsLogVerdict, IsScriptVerdict}
+use Rattle.program_input.specs.Arguments.{arguments_given}
 use Rattle.judge_run.specs.declared.outcome.Said.{Said}
 use Rattle.judge_run.specs.declared.outcome.Said.TheVariants as said
 use Rattle.judge_run.specs.declared.outcome.Outcome.{Outcome}
@@ -208,11 +208,6 @@ abbrev pub IsWritten : Outcome → Answer → Stream → Stream → Type 0
 IsWritten (outcomes.Told what) answer sink sink' = (what ≡ answer.said) × Took sink.bytes sink'.bytes answer.text.items
 IsWritten outcomes.WriteFault answer sink sink' = Rose sink.faults sink'.faults × TookPart answer.text.items sink.bytes sink'.bytes
 IsWritten other answer sink sink' = ⊥
-
--- the arguments that the system gives; where one is no text it gives none
-abbrev pub arguments_given : {E : Type 0} → Result (IntoIter (String Global) Global) E → Option (List (String Global))
-arguments_given (Ok arguments) = Some (into_iter_items arguments)
-arguments_given (Err error) = None
 
 abbrev pub asked_by : Option (List (String Global)) → Option Asked
 asked_by None = None

@@ -1,35 +1,18 @@
 -- Which words are accepted, and what they ask for.
-use Rattle.std.specs.Prelude.{ℕ, List, [], ◌∷◌, Bool, true, false, Option, Some, None, option_and_then, option_map}
+use Rattle.std.specs.Prelude.{ℕ, List, Bool, true, false, Option, Some, None, option_and_then, option_map}
 use Rattle.std.specs.Str.{bytes_eq}
 use lib.Chars.{codes}
-use Rattle.clap.specs.Words.{App, Kinds, Row, Rule, fault_of, first_of, matches_of, new_app, new_rule, with_rule}
-use Rattle.clap.specs.declared.builder.action.ArgAction.TheVariants.{SetTrue}
+use Rattle.clap.specs.Words.{App, Row, first_of, new_app, with_rule}
+use Rattle.program_input.specs.Words.{matches_by, option, switch}
 use Rattle.report_reader.specs.Words.{value_at}
 use Rattle.judge_run.specs.declared.words.Asked.{Asked}
 use Rattle.judge_run.specs.declared.words.Asked.TheVariants.{Verdict, Log}
 
 -- ---- the command line, as clap defines it
 
--- an option of this name, with a value
-abbrev pub option : List ℕ → Rule
-option name = record (new_rule name) { long = Some name }
-
--- an option of this name, without a value
-abbrev pub switch : List ℕ → Rule
-switch name = record (option name) { action = Some SetTrue }
-
 -- judge_run [--log] [--seed N]
 abbrev pub judge_line : App
 judge_line = with_rule (with_rule (new_app (codes "judge_run")) (switch (codes "log"))) (option (codes "seed"))
-
--- the matches, where nothing is at fault
-abbrev pub unless_faulty : Kinds → List Row → Option (List Row)
-unless_faulty [] rows = Some rows
-unless_faulty (fault ∷ faults) rows = None
-
--- the matches that the words have by the definition of a command line, if they have any
-abbrev pub matches_by : App → List (List ℕ) → Option (List Row)
-matches_by line words = unless_faulty (fault_of line words) (matches_of line words)
 
 -- ---- what is asked for
 

@@ -1,13 +1,12 @@
 //! Which words are accepted, and what they ask for.
 
-ghost use Rattle.std.specs.Prelude.{◌≡◌, ◌≢◌, IfOk, Some, false, map, option_map, string_bytes, true};
-ghost use lib.Chars.{codes};
-ghost use Rattle.clap.specs.Words.{app_of, first_of, found_of, is_simple_and_free, rows_of, rule_of};
-ghost use Rattle.judge_run.specs.Words.{asked_by, asked_of, asked_with, judge_line, log_in, log_of, matches_by, option, switch};
+ghost use Rattle.std.specs.Prelude.{◌≡◌, IfOk, map, option_map, string_bytes};
+ghost use Rattle.clap.specs.Words.{app_of, found_of, rows_of};
+ghost use Rattle.judge_run.specs.Words.{asked_by, asked_of, asked_with, judge_line, log_of};
 
-use clap::error::ErrorKind;
-use clap::{Arg, ArgAction, ArgMatches, Error};
+use clap::ArgMatches;
 use co_base::Memory;
+use program_input::{matches_of, option, switch};
 use report_reader::value_of;
 use std::alloc::Global;
 
@@ -34,13 +33,9 @@ pub fn asked_of(alloc: Global, words: &[String]) -> Result<Option<Asked>, Memory
 fn asked_by(matches: &ArgMatches<'_>) -> Option<Asked>
     ensures { result ≡ asked_by (rows_of (found_of matches.now)) }
 {
-    asked_with(log_in(matches), matches.get_str("seed"))
-}
-
-fn log_in(matches: &ArgMatches<'_>) -> bool
-    ensures { result ≡ log_in (rows_of (found_of matches.now)) }
-{
-    log_of(matches.get_str("log"))
+    let log = matches.get_str("log");
+    let seed = matches.get_str("seed");
+    asked_with(log_of(log), seed)
 }
 
 fn log_of(word: Option<&str>) -> bool
@@ -76,48 +71,4 @@ fn judge_line<'a>(alloc: Global) -> Result<clap::Command<'a>, Memory>
         .arg(switch(alloc, "log"))?
         .arg(option(alloc, "seed"))?;
     Ok(line)
-}
-
-/// An option with a value.
-fn option<'a>(alloc: Global, name: &'a str) -> Arg<'a>
-    ensures rule { rule_of result ≡ option name.now }
-    ensures local { result.global ≡ false }
-{
-    Arg::new(alloc, name).long(name)
-}
-
-/// An option without a value.
-fn switch<'a>(alloc: Global, name: &'a str) -> Arg<'a>
-    ensures rule { rule_of result ≡ switch name.now }
-    ensures local { result.global ≡ false }
-{
-    Arg::new(alloc, name).long(name).action(ArgAction::SetTrue)
-}
-
-/// The matches of the words, if they have any.
-fn matches_of<'a>(
-    line: clap::Command<'a>,
-    words: &'a [String],
-) -> Result<Option<ArgMatches<'a>>, Memory>
-    requires { is_simple_and_free (app_of line) ≡ true }
-    ensures { IfOk result (λ found. option_map (λ m. rows_of (found_of m)) found
-        ≡ matches_by (app_of line.entry) (map string_bytes words.now)) }
-{
-    match line.try_get_matches_from(words) {
-        Ok(matches) => Ok(Some(matches)),
-        Err(error) => {
-            if is_memory(error.kind()) {
-                Err(Memory)
-            } else {
-                Ok(None)
-            }
-        }
-    }
-}
-
-/// Whether it is for want of memory that clap has no matches.
-fn is_memory(kind: ErrorKind) -> bool
-    ensures { result ≡ false → kind ≢ ErrorKind.OutOfMemory }
-{
-    matches!(kind, ErrorKind::OutOfMemory)
 }

@@ -1,3 +1,2 @@
 mod Limits
-mod Matched
 mod Meaning

@@ -1,7 +1,6 @@
 -- What each outcome of a call says of the words, of what was read and of what was written.
 use Rattle.std.specs.Prelude.{◌≡◌, ℕ, ◌≤◌, true, List, length, Option, Some, None, Result, Ok, Err, String, map, option_and_then, string_bytes}
 use Rattle.std.specs.Global.{Global}
-use Rattle.std.specs.Vec.Iter.{into_iter_items}
 use Rattle.std.specs.declared.vec.IntoIter.{IntoIter}
 use Rattle.co_base.specs.Streams.{Rose, Gave, GaveJust, IsDrained, Took, TookPart}
 use Rattle.job_model.specs.declared.acts.End.{End}
@@ -15,6 +14,7 @@ use Rattle.end_search.specs.declared.wanted.Wanted.{Wanted}
 use Rattle.end_search.specs.declared.ways.Verdict.{Verdict}
 use Rattle.end_search.specs.declared.ways.Verdict.TheVariants as verdict
 use Rattle.run_explore.specs.Words.{Request, asked_of, ends, report_of, in_order}
+use Rattle.program_input.specs.Arguments.{arguments_given}
 use Rattle.run_explore.specs.declared.top.Answer.{Answer}
 use Rattle.run_explore.specs.declared.outcome.Ending.{Ending}
 use Rattle.run_explore.specs.declared.outcome.Ending.TheVariants as ending
@@ -160,11 +160,6 @@ abbrev pub IsWritten : Outcome → Answer → Stream → Stream → Type 0
 IsWritten (outcomes.Written how) answer sink sink' = (how ≡ answer.ending) × Took sink.bytes sink'.bytes answer.text.items
 IsWritten outcomes.WriteFault answer sink sink' = Rose sink.faults sink'.faults × TookPart answer.text.items sink.bytes sink'.bytes
 IsWritten other answer sink sink' = ⊥
-
--- the arguments that the system gives; where one is no text it gives none
-abbrev pub arguments_given : {E : Type 0} → Result (IntoIter (String Global) Global) E → Option (List (String Global))
-arguments_given (Ok arguments) = Some (into_iter_items arguments)
-arguments_given (Err error) = None
 
 -- what the arguments ask for
 abbrev pub asked_for : {E : Type 0} → Result (IntoIter (String Global) Global) E → Option Request

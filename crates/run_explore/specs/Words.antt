@@ -1,9 +1,10 @@
 -- Which words are accepted, and what they ask for.
-use Rattle.std.specs.Prelude.{ℕ, ◌<◌, ◌∷◌, ◌++◌, [], List, Bool, true, false, nat_lt, ◌==◌, Option, Some, None, option_map, option_and_then, if◌then◌else◌}
+use Rattle.std.specs.Prelude.{ℕ, ◌<◌, ◌∷◌, ◌++◌, [], List, nat_lt, ◌==◌, Option, Some, None, option_map, option_and_then, if◌then◌else◌}
 use Rattle.std.specs.List.{slice_split}
 use Rattle.std.specs.Str.{bytes_eq}
 use lib.Chars.{codes}
-use Rattle.clap.specs.Words.{App, Kinds, Row, Rule, fault_of, first_of, matches_of, new_app, new_rule, with_rule}
+use Rattle.clap.specs.Words.{App, Row, first_of, new_app, with_rule}
+use Rattle.program_input.specs.Words.{matches_by, option}
 use Rattle.report_reader.specs.Words.{value_at}
 use Rattle.end_search.specs.declared.answers.Limit.{Limit}
 use Rattle.end_search.specs.declared.wanted.Tell.{Tell}
@@ -29,10 +30,6 @@ request_of (asked.Order order) = in_order order.items
 
 -- ---- the command line, as clap defines it
 
--- an option of this name, with a value
-abbrev pub option : List ℕ → Rule
-option name = record (new_rule name) { long = Some name }
-
 -- run_explore [--find WHAT] [--tell WHAT] [--states N] [--report N] [--order T,T..] [--workers N]
 abbrev pub explore_line : App
 explore_line =
@@ -40,15 +37,6 @@ explore_line =
     (with_rule
     (with_rule (with_rule (with_rule (with_rule (new_app (codes "run_explore")) (option (codes "find"))) (option (codes "tell")))
     (option (codes "states"))) (option (codes "report"))) (option (codes "order"))) (option (codes "workers"))
-
--- the matches, where nothing is at fault
-abbrev pub unless_faulty : Kinds → List Row → Option (List Row)
-unless_faulty [] rows = Some rows
-unless_faulty (fault ∷ faults) rows = None
-
--- the matches that the words have by the definition of a command line, if they have any
-abbrev pub matches_by : App → List (List ℕ) → Option (List Row)
-matches_by line words = unless_faulty (fault_of line words) (matches_of line words)
 
 -- ---- the values
 

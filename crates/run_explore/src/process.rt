@@ -1,14 +1,14 @@
 //! The whole process, over any source and sink: from the arguments that the system gives to the code that the process ends with.
 
-ghost use Rattle.std.specs.Prelude.{◌≡◌, IfOk, option_map};
+ghost use Rattle.std.specs.Prelude.{◌≡◌};
 ghost use Rattle.std.specs.Process.{exit_status};
-ghost use Rattle.std.specs.Vec.Iter.{into_iter_items};
-ghost use Rattle.run_explore.specs.Outcomes.{Means, arguments_given, asked_for, message_of, number_of, stream};
+ghost use Rattle.run_explore.specs.Outcomes.{Means, asked_for, message_of, number_of, stream};
 ghost use Rattle.run_explore.specs.declared.outcome.Outcome.{Outcome as Comes};
 
 use crate::outcome::{Message, Outcome, exit_code};
 use crate::top::explore_main;
-use co_base::{Memory, Sink, Source};
+use co_base::{Sink, Source};
+use program_input::texts_of;
 use std::alloc::Global;
 use std::env::Args;
 use std::io;
@@ -53,26 +53,4 @@ fn leaving(outcome: Outcome) -> Left
         code: exit_code(outcome.number()),
         message: outcome.message(),
     }
-}
-
-/// The arguments, if each is a text.
-fn texts_of(alloc: Global, arguments: io::Result<Args>) -> Result<Option<Vec<String>>, Memory>
-    ensures { IfOk result (λ texts. option_map (λ all. all.items) texts ≡ arguments_given arguments) }
-{
-    match arguments {
-        Ok(given) => Ok(Some(all_of(alloc, given)?)),
-        Err(error) if error.kind() == io::ErrorKind::OutOfMemory => Err(Memory),
-        Err(_) => Ok(None),
-    }
-}
-
-/// All arguments, in their order.
-fn all_of(alloc: Global, arguments: Args) -> Result<Vec<String>, Memory>
-    ensures { IfOk result (λ all. all.items ≡ into_iter_items arguments) }
-{
-    let mut all = Vec::new(alloc);
-    for text in arguments {
-        all.push(text)?;
-    }
-    Ok(all)
 }

@@ -1,15 +1,15 @@
 //! Which words are accepted, and what they ask for.
 
-ghost use Rattle.std.specs.Prelude.{◌≡◌, ◌≢◌, IfOk, Some, false, map, option_map, option_and_then, string_bytes, true};
-ghost use lib.Chars.{codes};
-ghost use Rattle.clap.specs.Words.{app_of, first_of, found_of, is_simple_and_free, rows_of, rule_of};
+ghost use Rattle.std.specs.Prelude.{◌≡◌, IfOk, map, option_map, option_and_then, string_bytes, true};
+ghost use Rattle.clap.specs.Words.{app_of, found_of, is_simple_and_free, rows_of};
+ghost use Rattle.program_input.specs.Words.{matches_by};
 ghost use Rattle.report_reader.specs.Words.{value_at};
-ghost use Rattle.run_explore.specs.Words.{asked_by, asked_of, asked_within, explore_line, find_of, limit_in, limit_with, matches_by, number_at, option, request_of, states_of, tag_at, tags_of, tell_of, wanted_of, workers_at, workers_of};
+ghost use Rattle.run_explore.specs.Words.{asked_by, asked_of, asked_within, explore_line, find_of, limit_with, number_at, request_of, states_of, tag_at, tags_of, tell_of, wanted_of, workers_at, workers_of};
 
-use clap::error::ErrorKind;
-use clap::{Arg, ArgMatches, Error};
+use clap::ArgMatches;
 use co_base::{Memory, Tag};
 use end_search::{Limit, Tell, Wanted};
+use program_input::{matches_of, option};
 use report_reader::{cut_at, value_of};
 use std::alloc::Global;
 
@@ -52,15 +52,16 @@ fn asked_in<'a>(
 fn asked_by(alloc: Global, matches: &ArgMatches<'_>) -> Result<Option<Asked>, Memory>
     ensures { IfOk result (λ asked. option_map request_of asked ≡ asked_by (rows_of (found_of matches.now))) }
 {
-    let Some(limit) = limit_in(matches) else {
-        return Ok(None);
-    };
-    asked_within(
-        alloc,
-        limit,
-        matches.get_str("order"),
-        matches.get_str("report"),
-    )
+    let find = matches.get_str("find");
+    let tell = matches.get_str("tell");
+    let states = matches.get_str("states");
+    let workers = matches.get_str("workers");
+    let order = matches.get_str("order");
+    let report = matches.get_str("report");
+    match limit_by(find, tell, states, workers) {
+        Some(limit) => asked_within(alloc, limit, order, report),
+        None => Ok(None),
+    }
 }
 
 fn asked_within(
@@ -102,54 +103,7 @@ fn explore_line<'a>(alloc: Global) -> Result<clap::Command<'a>, Memory>
     Ok(line)
 }
 
-/// An option with a value.
-fn option<'a>(alloc: Global, name: &'a str) -> Arg<'a>
-    ensures rule { rule_of result ≡ option name.now }
-    ensures local { result.global ≡ false }
-{
-    Arg::new(alloc, name).long(name)
-}
-
-/// The matches of the words, if they have any.
-fn matches_of<'a>(
-    line: clap::Command<'a>,
-    words: &'a [String],
-) -> Result<Option<ArgMatches<'a>>, Memory>
-    requires { is_simple_and_free (app_of line) ≡ true }
-    ensures { IfOk result (λ found. option_map (λ m. rows_of (found_of m)) found
-        ≡ matches_by (app_of line.entry) (map string_bytes words.now)) }
-{
-    match line.try_get_matches_from(words) {
-        Ok(matches) => Ok(Some(matches)),
-        Err(error) => {
-            if is_memory(error.kind()) {
-                Err(Memory)
-            } else {
-                Ok(None)
-            }
-        }
-    }
-}
-
-/// Whether it is for want of memory that clap has no matches.
-fn is_memory(kind: ErrorKind) -> bool
-    ensures { result ≡ false → kind ≢ ErrorKind.OutOfMemory }
-{
-    matches!(kind, ErrorKind::OutOfMemory)
-}
-
 // ---- the values
-
-fn limit_in(matches: &ArgMatches<'_>) -> Option<Limit>
-    ensures { result ≡ limit_in (rows_of (found_of matches.now)) }
-{
-    limit_by(
-        matches.get_str("find"),
-        matches.get_str("tell"),
-        matches.get_str("states"),
-        matches.get_str("workers"),
-    )
-}
 
 fn limit_by(
     find: Option<&str>,
@@ -218,15 +172,9 @@ fn wanted_of(word: &str) -> Option<Wanted>
 fn tell_of(word: Option<&str>) -> Option<Tell>
     ensures { result ≡ tell_of (option_map (λ w. w.now) word.entry) }
 {
-    match word {
-        Some(word) => tell_named(word),
-        None => Some(Tell::All),
-    }
-}
-
-fn tell_named(word: &str) -> Option<Tell>
-    ensures { result ≡ tell_of (Some word.now) }
-{
+    let Some(word) = word else {
+        return Some(Tell::All);
+    };
     if word == "status" {
         Some(Tell::Status)
     } else if word == "jobs" {

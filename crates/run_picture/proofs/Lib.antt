@@ -1,3 +1,2 @@
-mod Matched
 mod Meaning
 mod Ranges

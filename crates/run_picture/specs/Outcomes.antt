@@ -1,7 +1,6 @@
 -- What each outcome of a call says of the words, of what was read and of what was written.
 use Rattle.std.specs.Prelude.{◌≡◌, ℕ, Bool, true, false, List, [], length, nat_lt, Option, Some, None, Result, Ok, Err, String, map, string_bytes, option_and_then}
 use Rattle.std.specs.Global.{Global}
-use Rattle.std.specs.Vec.Iter.{into_iter_items}
 use Rattle.std.specs.declared.vec.IntoIter.{IntoIter}
 use lib.Chars.{codes}
 use Rattle.co_base.specs.Streams.{Rose, Gave, GaveJust, IsDrained, Took, TookPart}
@@ -20,6 +19,7 @@ use Rattle.report_picture.specs.Diagrams.{IsDiagramOf}
 use Rattle.report_picture.specs.Traces.{IsJson, Tells, trace_text}
 use Rattle.report_picture.specs.declared.trace.Trace.{Trace}
 use Rattle.report_picture.specs.declared.picture.Picture.{Picture}
+use Rattle.program_input.specs.Arguments.{arguments_given}
 use Rattle.run_picture.specs.declared.words.Format.{Format}
 use Rattle.run_picture.specs.declared.words.Format.TheVariants as formats
 use Rattle.run_picture.specs.declared.words.Asked.{Asked}
@@ -227,11 +227,6 @@ abbrev pub IsWritten : Outcome → Answer → Stream → Stream → Type 0
 IsWritten (outcomes.Drawn shown) answer sink sink' = (shown ≡ answer.shown) × Took sink.bytes sink'.bytes answer.text.items
 IsWritten outcomes.WriteFault answer sink sink' = Rose sink.faults sink'.faults × TookPart answer.text.items sink.bytes sink'.bytes
 IsWritten other answer sink sink' = ⊥
-
--- the arguments that the system gives; where one is no text it gives none
-abbrev pub arguments_given : {E : Type 0} → Result (IntoIter (String Global) Global) E → Option (List (String Global))
-arguments_given (Ok arguments) = Some (into_iter_items arguments)
-arguments_given (Err error) = None
 
 -- what the arguments ask for
 abbrev pub asked_for : {E : Type 0} → Result (IntoIter (String Global) Global) E → Option Asked

@@ -4,8 +4,8 @@ use Rattle.std.specs.List.{slice_split}
 use Rattle.std.specs.Prelude.{◌==◌, ◌^◌, ◌-◌}
 use Rattle.std.specs.Str.{bytes_eq}
 use lib.Chars.{codes}
-use Rattle.clap.specs.Words.{App, Kinds, Row, Rule, fault_of, first_of, matches_of, new_app, new_rule, with_rule}
-use Rattle.clap.specs.declared.builder.action.ArgAction.TheVariants.{SetTrue}
+use Rattle.clap.specs.Words.{App, Row, first_of, new_app, with_rule}
+use Rattle.program_input.specs.Words.{matches_by, option, switch}
 use Rattle.report_reader.specs.Words.{value_at}
 use Rattle.report_picture.specs.declared.columns.Wanted.{Wanted}
 use Rattle.run_picture.specs.declared.words.Format.{Format}
@@ -15,14 +15,6 @@ use Rattle.run_picture.specs.declared.words.Asked.{Asked}
 
 -- ---- the command line, as clap defines it
 
--- an option of this name, with a value
-abbrev pub option : List ℕ → Rule
-option name = record (new_rule name) { long = Some name }
-
--- an option of this name, without a value
-abbrev pub switch : List ℕ → Rule
-switch name = record (option name) { action = Some SetTrue }
-
 -- run_picture [--format F] [--coroutines A-B] [--only channels] [--lines A-B] [--script]
 abbrev pub picture_line : App
 picture_line =
@@ -30,15 +22,6 @@ picture_line =
     (with_rule (with_rule (with_rule (with_rule (new_app (codes "run_picture")) (option (codes "format")))
     (option (codes "coroutines")))
     (option (codes "only"))) (option (codes "lines"))) (switch (codes "script"))
-
--- the matches, where nothing is at fault
-abbrev pub unless_faulty : Kinds → List Row → Option (List Row)
-unless_faulty [] rows = Some rows
-unless_faulty (fault ∷ faults) rows = None
-
--- the matches that the words have by the definition of a command line, if they have any
-abbrev pub matches_by : App → List (List ℕ) → Option (List Row)
-matches_by line words = unless_faulty (fault_of line words) (matches_of line words)
 
 -- ---- the values
 

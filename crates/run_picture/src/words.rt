@@ -1,13 +1,12 @@
 //! Which words are accepted, and what they ask for.
 
-ghost use Rattle.std.specs.Prelude.{◌≡◌, ◌≢◌, IfOk, Some, false, map, option_map, string_bytes, true};
-ghost use lib.Chars.{codes};
-ghost use Rattle.clap.specs.Words.{app_of, first_of, found_of, is_simple_and_free, rows_of, rule_of};
-ghost use Rattle.run_picture.specs.Words.{asked_by, asked_of, format_for, format_in, format_of, matches_by, only_of, option, picture_line, range_between, range_of, range_or, script_in, script_of, switch, wanted_by};
+ghost use Rattle.std.specs.Prelude.{◌≡◌, IfOk, map, option_map, string_bytes};
+ghost use Rattle.clap.specs.Words.{app_of, found_of, rows_of};
+ghost use Rattle.run_picture.specs.Words.{asked_by, asked_of, asked_with, format_for, format_of, only_of, picture_line, range_between, range_of, range_or, script_of};
 
-use clap::error::ErrorKind;
-use clap::{Arg, ArgAction, ArgMatches, Error};
+use clap::ArgMatches;
 use co_base::Memory;
+use program_input::{matches_of, option, switch};
 use report_picture::Wanted;
 use report_reader::{cut_at, value_of};
 use std::alloc::Global;
@@ -50,34 +49,42 @@ pub fn asked_of(alloc: Global, words: &[String]) -> Result<Option<Asked>, Memory
 fn asked_by(matches: &ArgMatches<'_>) -> Option<Asked>
     ensures { result ≡ asked_by (rows_of (found_of matches.now)) }
 {
-    let Some(format) = format_in(matches) else {
-        return None;
-    };
-    let Some(coroutines) = coroutines_in(matches) else {
-        return None;
-    };
-    let Some(only_channels) = only_in(matches) else {
-        return None;
-    };
-    let Some(lines) = lines_in(matches) else {
-        return None;
-    };
-    Some(Asked {
-        format,
-        wanted: wanted_by(coroutines, only_channels, lines),
-        script: script_in(matches),
-    })
+    let script = matches.get_str("script");
+    let format = matches.get_str("format");
+    let coroutines = matches.get_str("coroutines");
+    let only = matches.get_str("only");
+    let lines = matches.get_str("lines");
+    asked_with(
+        script_of(script),
+        format_for(format, lines),
+        range_or(0, coroutines),
+        only_of(only),
+        range_or(1, lines),
+    )
 }
 
-fn wanted_by(coroutines: Range, only_channels: bool, lines: Range) -> Wanted
-    ensures { result ≡ wanted_by coroutines only_channels lines }
+fn asked_with(
+    script: bool,
+    format: Option<Format>,
+    coroutines: Option<Range>,
+    only: Option<bool>,
+    lines: Option<Range>,
+) -> Option<Asked>
+    ensures { result ≡ asked_with script format coroutines only lines }
 {
-    Wanted {
-        first: coroutines.first,
-        last: coroutines.last,
-        only_channels,
-        from: lines.first,
-        to: lines.last,
+    match (format, coroutines, only, lines) {
+        (Some(format), Some(coroutines), Some(only_channels), Some(lines)) => Some(Asked {
+            format,
+            wanted: Wanted {
+                first: coroutines.first,
+                last: coroutines.last,
+                only_channels,
+                from: lines.first,
+                to: lines.last,
+            },
+            script,
+        }),
+        _ => None,
     }
 }
 
@@ -96,57 +103,7 @@ fn picture_line<'a>(alloc: Global) -> Result<clap::Command<'a>, Memory>
     Ok(line)
 }
 
-/// An option with a value.
-fn option<'a>(alloc: Global, name: &'a str) -> Arg<'a>
-    ensures rule { rule_of result ≡ option name.now }
-    ensures local { result.global ≡ false }
-{
-    Arg::new(alloc, name).long(name)
-}
-
-/// An option without a value.
-fn switch<'a>(alloc: Global, name: &'a str) -> Arg<'a>
-    ensures rule { rule_of result ≡ switch name.now }
-    ensures local { result.global ≡ false }
-{
-    Arg::new(alloc, name).long(name).action(ArgAction::SetTrue)
-}
-
-/// The matches of the words, if they have any.
-fn matches_of<'a>(
-    line: clap::Command<'a>,
-    words: &'a [String],
-) -> Result<Option<ArgMatches<'a>>, Memory>
-    requires { is_simple_and_free (app_of line) ≡ true }
-    ensures { IfOk result (λ found. option_map (λ m. rows_of (found_of m)) found
-        ≡ matches_by (app_of line.entry) (map string_bytes words.now)) }
-{
-    match line.try_get_matches_from(words) {
-        Ok(matches) => Ok(Some(matches)),
-        Err(error) => {
-            if is_memory(error.kind()) {
-                Err(Memory)
-            } else {
-                Ok(None)
-            }
-        }
-    }
-}
-
-/// Whether it is for want of memory that clap has no matches.
-fn is_memory(kind: ErrorKind) -> bool
-    ensures { result ≡ false → kind ≢ ErrorKind.OutOfMemory }
-{
-    matches!(kind, ErrorKind::OutOfMemory)
-}
-
 // ---- the values
-
-fn format_in(matches: &ArgMatches<'_>) -> Option<Format>
-    ensures { result ≡ format_in (rows_of (found_of matches.now)) }
-{
-    format_for(matches.get_str("format"), matches.get_str("lines"))
-}
 
 fn format_for(word: Option<&str>, lines: Option<&str>) -> Option<Format>
     ensures { result ≡ format_for (format_of (option_map (λ w. w.now) word.entry)) (option_map (λ w. w.now) lines.entry) }
@@ -160,15 +117,9 @@ fn format_for(word: Option<&str>, lines: Option<&str>) -> Option<Format>
 fn format_of(word: Option<&str>) -> Option<Format>
     ensures { result ≡ format_of (option_map (λ w. w.now) word.entry) }
 {
-    match word {
-        Some(word) => format_named(word),
-        None => Some(Format::Svg),
-    }
-}
-
-fn format_named(word: &str) -> Option<Format>
-    ensures { result ≡ format_of (Some word.now) }
-{
+    let Some(word) = word else {
+        return Some(Format::Svg);
+    };
     if word == "svg" {
         Some(Format::Svg)
     } else if word == "mermaid" {
@@ -180,12 +131,6 @@ fn format_named(word: &str) -> Option<Format>
     }
 }
 
-fn only_in(matches: &ArgMatches<'_>) -> Option<bool>
-    ensures { result ≡ only_of (first_of (codes "only") (rows_of (found_of matches.now))) }
-{
-    only_of(matches.get_str("only"))
-}
-
 fn only_of(word: Option<&str>) -> Option<bool>
     ensures { result ≡ only_of (option_map (λ w. w.now) word.entry) }
 {
@@ -195,12 +140,6 @@ fn only_of(word: Option<&str>) -> Option<bool>
     }
 }
 
-fn script_in(matches: &ArgMatches<'_>) -> bool
-    ensures { result ≡ script_in (rows_of (found_of matches.now)) }
-{
-    script_of(matches.get_str("script"))
-}
-
 fn script_of(word: Option<&str>) -> bool
     ensures { result ≡ script_of (option_map (λ w. w.now) word.entry) }
 {
@@ -208,18 +147,6 @@ fn script_of(word: Option<&str>) -> bool
         Some(word) => word == "true",
         None => false,
     }
-}
-
-fn coroutines_in(matches: &ArgMatches<'_>) -> Option<Range>
-    ensures { result ≡ range_or 0 (first_of (codes "coroutines") (rows_of (found_of matches.now))) }
-{
-    range_or(0, matches.get_str("coroutines"))
-}
-
-fn lines_in(matches: &ArgMatches<'_>) -> Option<Range>
-    ensures { result ≡ range_or 1 (first_of (codes "lines") (rows_of (found_of matches.now))) }
-{
-    range_or(1, matches.get_str("lines"))
 }
 
 fn range_or(first: u32, word: Option<&str>) -> Option<Range>

@@ -1,5 +1,6 @@
 use Rattle.std.proofs.Common.{◌≡◌, map, string_bytes, subst, IfOk, option_and_then, option_map}
-use Rattle.run_explore.specs.Words.{asked_by, matches_by, request_of}
+use Rattle.program_input.specs.Words.{matches_by}
+use Rattle.run_explore.specs.Words.{asked_by, request_of}
 use Rattle.run_explore.proofs.words.asked_of.Goals as goal
 
 pub returns : goal.returns
