@@ -1,5 +1,5 @@
 -- What a picture shows, by what its parts show.
-use Rattle.std.proofs.Common.{◌≡◌, ◌∙◌, ℕ, List, Bool, true, false, map, filter, subst, ap, sym}
+use Rattle.std.proofs.Common.{◌≡◌, ◌∙◌, ℕ, List, Bool, true, false, ◌||◌, refl, map, filter, subst, ap, sym}
 use Rattle.report_reader.specs.Reports.{Line as Told}
 use Rattle.report_reader.specs.Reading.{told}
 use Rattle.report_picture.specs.declared.columns.Wanted.{Wanted}
@@ -26,9 +26,12 @@ shown found wanted lines picture tags whole slice are is columns beside once in_
   fates = fates;
 }
 
-pub are_allowed : (found : Bool) (wanted : Wanted) (tags : List ℕ) (lines : List Told) (ds : List Drawn) → found ≡ true
-    → StandBelow wanted tags lines ds → AreOrdered found wanted tags lines ds
-are_allowed found wanted tags lines ds is below = subst (λ f. AreOrdered f wanted tags lines ds) (sym is) below
+pub are_arranged : (found as_told : Bool) (wanted : Wanted) (tags : List ℕ) (lines : List Told) (ds : List Drawn)
+    → (as_told || found) ≡ true → (as_told ≡ true → (found ≡ false) × StandFrom 0 ds) → (found ≡ true → StandBelow wanted tags lines ds)
+    → AreOrdered found wanted tags lines ds
+are_arranged true as_told wanted tags lines ds any told allowed = allowed refl
+are_arranged false true wanted tags lines ds any told allowed = (told refl).1
+are_arranged false false wanted tags lines ds any told allowed = let e : false ≡ true = any in cc
 
 pub are_told : (found : Bool) (wanted : Wanted) (tags : List ℕ) (lines : List Told) (ds : List Drawn) → found ≡ false → StandFrom 0 ds
     → AreOrdered found wanted tags lines ds

@@ -2,10 +2,10 @@
 
 use crate::keyed::Numbers;
 use crate::looks::{Look, Shade};
-use crate::notes::{ARROWS, Note};
+use crate::notes::{ARROWS, LINKS, NO_LINKS, Note};
 use crate::told::{BookLines, first_of};
 use gathered::{Gathered, NOWHERE, at};
-use std::alloc::{AllocError, Global};
+use std::alloc::Global;
 
 /// An arrow from one line to another, by their numbers among the lines of the books.
 #[derive(Clone, Copy)]
@@ -15,12 +15,13 @@ pub(crate) struct Arrow {
     pub(crate) look: Look,
 }
 
-/// The channels whose elements have arrows, in the order in which the report first tells of one, and the arrows of the lines.
+/// The channels whose elements have arrows, in the order in which the report first tells of one, and the arrows of the lines. Whether
+/// memory held all is asked of the arrows.
 #[derive(Drop)]
 pub(crate) struct Channels<'a> {
     pub(crate) names: Gathered<&'a [u8]>,
     pub(crate) arrows: Gathered<Arrow>,
-    numbers: Numbers<&'a [u8]>,
+    numbers: Numbers<'a>,
 }
 
 /// The looks of channels; the ninth looks like the first.
@@ -50,7 +51,7 @@ const NO_ARROW: Arrow = Arrow {
 /// The arrow that a line tells of, besides that of the element that it brought.
 fn own_arrow<'a>(told: &BookLines<'a>, here: usize, note: &Note<'a>) -> Arrow {
     for (verb, from, to, look) in ARROWS.iter() {
-        if *verb as usize == note.verb.number {
+        if *verb as usize == note.verb {
             return Arrow {
                 from: told.find(*from, here),
                 to: told.find(*to, here),
@@ -64,10 +65,11 @@ fn own_arrow<'a>(told: &BookLines<'a>, here: usize, note: &Note<'a>) -> Arrow {
 impl<'a> Channels<'a> {
     /// The number of a channel, which it gets if it has none.
     fn number_of(&mut self, channel: &'a [u8]) -> usize {
-        let known = self.numbers.at(channel);
+        let key = (0, 0, channel, b"".as_slice());
+        let known = self.numbers.at(key);
         let next = self.names.len();
         if known == NOWHERE {
-            self.numbers.put(channel, next);
+            self.numbers.put(key, next);
             self.names.add(channel);
         }
         first_of(known, next)
@@ -75,48 +77,36 @@ impl<'a> Channels<'a> {
 
     /// Adds an arrow, if both its lines are there.
     fn add(&mut self, arrow: Arrow) {
-        if arrow.from != NOWHERE && arrow.to != NOWHERE && arrow.from != arrow.to {
+        let Arrow { from, to, .. } = arrow;
+        if (from != NOWHERE) & (to != NOWHERE) & (from != to) {
             self.arrows.add(arrow);
-        }
-    }
-
-    /// Adds the arrow of an element of a channel, if there is a line that got it.
-    fn add_element(&mut self, channel: &'a [u8], from: usize, to: usize) {
-        if to != NOWHERE {
-            let shade = shade_of(self.number_of(channel));
-            self.add(Arrow {
-                from,
-                to,
-                look: Look::Brings(shade),
-            });
         }
     }
 
     /// Adds the arrows that the lines tell of: those of their verbs, and those of the elements that they brought.
     fn add_all(&mut self, told: &BookLines<'a>) {
-        for (here, note) in told.notes.as_slice().iter().enumerate() {
-            self.add(own_arrow(told, here, note));
-            let (got, _, _, _) = note.links();
-            self.add_element(note.channel, here, told.find(got, here));
+        for (from, note) in told.notes.as_slice().iter().enumerate() {
+            self.add(own_arrow(told, from, note));
+            let (got, _, _, _) = at(&LINKS, note.verb, NO_LINKS);
+            let to = told.find(got, from);
+            if to != NOWHERE {
+                let look = Look::Brings(shade_of(self.number_of(note.channel)));
+                self.add(Arrow { from, to, look });
+            }
         }
     }
 }
 
 /// The channels whose elements have arrows, and the arrows: of the elements, of the cancellations that lines saw, of what resolved the
 /// waits that they placed or woke, and of the coroutines that they began.
-pub(crate) fn channels_of<'a>(
-    alloc: Global,
-    told: &BookLines<'a>,
-) -> Result<Channels<'a>, AllocError> {
+pub(crate) fn channels_of<'a>(alloc: Global, told: &BookLines<'a>) -> Channels<'a> {
     let mut channels = Channels {
         names: Gathered::new(alloc),
         arrows: Gathered::new(alloc),
         numbers: Numbers::new(alloc),
     };
     channels.add_all(told);
-    if channels.names.full | channels.arrows.full | channels.numbers.full {
-        Err(AllocError)
-    } else {
-        Ok(channels)
-    }
+    let is_missing = channels.names.full | channels.numbers.full;
+    channels.arrows.full = channels.arrows.full | is_missing;
+    channels
 }

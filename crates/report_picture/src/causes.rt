@@ -3,7 +3,7 @@
 use crate::notes::{CAUSES, Note};
 use crate::told::BookLines;
 use gathered::{Gathered, NOWHERE};
-use std::alloc::{AllocError, Global};
+use std::alloc::Global;
 
 /// That one line stands below another, by their numbers among the lines of the books.
 #[derive(Clone, Copy)]
@@ -14,7 +14,7 @@ pub(crate) struct Precedence {
 
 /// Adds that the one line stands above the other, if both are there; an `attach` that cancels is one line.
 fn add(causes: &mut Gathered<Precedence>, above: usize, below: usize) {
-    if above != NOWHERE && below != NOWHERE && above != below {
+    if (above != NOWHERE) & (below != NOWHERE) & (above != below) {
         causes.add(Precedence { above, below });
     }
 }
@@ -28,7 +28,7 @@ fn add_of<'a>(
     note: &Note<'a>,
 ) {
     for (verb, above, below) in CAUSES.iter() {
-        if *verb as usize == note.verb.number {
+        if *verb as usize == note.verb {
             add(causes, told.find(*above, here), told.find(*below, here));
         }
     }
@@ -41,13 +41,10 @@ fn add_of<'a>(
 /// Which lines of the books stand below which others: an element below what brought it, a settle below what resolved its wait, `saw`
 /// below the `cancel`, `finish` below the children's `gone`, a first line below the `attach`, and each line below the one before it in
 /// its book.
-pub(crate) fn causes_of<'a>(
-    alloc: Global,
-    told: &BookLines<'a>,
-) -> Result<Vec<Precedence>, AllocError> {
+pub(crate) fn causes_of<'a>(alloc: Global, told: &BookLines<'a>) -> Gathered<Precedence> {
     let mut causes = Gathered::new(alloc);
     for (here, note) in told.notes.as_slice().iter().enumerate() {
         add_of(&mut causes, told, here, note);
     }
-    causes.whole()
+    causes
 }

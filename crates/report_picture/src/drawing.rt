@@ -6,18 +6,18 @@ ghost use Rattle.report_picture.specs.Pictures.{StandBeside, all_have_columns, i
 ghost use Rattle.report_picture.specs.Shown.{Shows};
 
 use crate::arranged::{Arranged, Books, arrange};
-use crate::arrows::{Arrow, channels_of};
+use crate::arrows::channels_of;
 use crate::columns::{Wanted, all_have_columns, tags_of};
 use crate::fates::{End, add_crosses, add_lost, ends_of};
 use crate::frame::{LEGEND, add_feet, add_legend, height_of, top_of};
-use crate::lanes::{Laid, Lanes, add_lanes, add_ways, laid_in};
+use crate::lanes::{Laid, add_lanes, add_ways, laid_in};
 use crate::layout::{BAR, Room, add_columns, label_of, row_y, widen};
 use crate::lives::{add_lives, add_waits};
 use crate::looks::Look;
 use crate::marks::{Marks, untitled};
-use crate::picture::{Column, Drawn, Lost, Mark, Picture};
+use crate::picture::{Drawn, Lost, Mark, Picture};
 use crate::placed::{add_part, is_within};
-use crate::sheet::{Seat, Sheet, seats_of};
+use crate::sheet::{Sheet, seats_of};
 use crate::told::{BookLines, told_in};
 use co_base::Memory;
 use gathered::Gathered;
@@ -47,22 +47,51 @@ pub fn draw<'a>(
     ensures all { IfOk result (λ drawing.
         drawing.all ≡ all_have_columns wanted (tags_of wanted (told_lines lines.now)) (told_lines lines.now)) }
 {
-    let tags = tags_of(alloc, wanted, lines)?;
-    let told = told_in(alloc, lines)?;
-    let channels = channels_of(alloc, &told)?;
+    match tags_of(alloc, wanted, lines) {
+        Ok(tags) => draw_columns(alloc, wanted, names, lines, tags.as_slice()),
+        Err(_) => Err(Memory),
+    }
+}
+
+/// The picture of the coroutines with these tags, which have a column.
+fn draw_columns<'a>(
+    alloc: Global,
+    wanted: Wanted,
+    names: Names<'a>,
+    lines: &[Line<'a>],
+    tags: &[u32],
+) -> Result<Drawing<'a>, Memory>
+    requires tags { tags.now ≡ tags_of wanted (told_lines lines.now) }
+    ensures shown { IfOk result (λ drawing. Shows drawing.in_order wanted (told_lines lines.now) drawing.picture) }
+    ensures names { IfOk result (λ drawing. drawing.picture.names.now ≡ names.entry.blocks.now) }
+    ensures all { IfOk result (λ drawing. drawing.all ≡ all_have_columns wanted tags.now (told_lines lines.now)) }
+{
+    let told = told_in(alloc, lines);
+    let channels = channels_of(alloc, &told);
     let books = Books {
         lines,
         told: &told,
         channels: &channels,
         wanted,
-        tags: tags.as_slice(),
+        tags,
         names,
     };
-    draw_books(alloc, books)
+    let mut arranged = Arranged {
+        seats: seats_of(alloc, &books),
+        numbers: Vec::new(alloc),
+        end: 0,
+        drawn: Vec::new(alloc),
+        in_order: false,
+    };
+    draw_arranged(alloc, &mut arranged, books)
 }
 
-/// The picture of the coroutines that have a column.
-fn draw_books<'a>(alloc: Global, books: Books<'_, 'a>) -> Result<Drawing<'a>, Memory>
+/// The picture of these lines, which it arranges.
+fn draw_arranged<'a>(
+    alloc: Global,
+    arranged: &mut Arranged<'a>,
+    books: Books<'_, 'a>,
+) -> Result<Drawing<'a>, Memory>
     requires tags { books.tags.now ≡ tags_of books.wanted (told_lines books.lines.now) }
     ensures shown { IfOk result (λ drawing.
         Shows drawing.in_order books.entry.wanted (told_lines books.entry.lines.now) drawing.picture) }
@@ -70,126 +99,82 @@ fn draw_books<'a>(alloc: Global, books: Books<'_, 'a>) -> Result<Drawing<'a>, Me
     ensures all { IfOk result (λ drawing.
         drawing.all ≡ all_have_columns books.entry.wanted books.entry.tags.now (told_lines books.entry.lines.now)) }
 {
-    let arranged = arrange(alloc, books)?;
-    let picture = picture_of(alloc, books, &arranged)?;
-    Ok(Drawing {
-        picture,
-        in_order: arranged.in_order,
-        all: all_have_columns(books.wanted, books.tags, books.lines),
-    })
-}
-
-/// The picture of these lines, as they are arranged.
-fn picture_of<'s, 'a>(
-    alloc: Global,
-    books: Books<'s, 'a>,
-    arranged: &'s Arranged<'a>,
-) -> Result<Picture<'a>, Memory>
-    ensures names { IfOk result (λ picture. picture.names.now ≡ books.entry.names.blocks.now) }
-    ensures tags { IfOk result (λ picture. map (λ c. c.tag) picture.columns.items ≡ books.entry.tags.now) }
-    ensures beside { IfOk result (λ picture. StandBeside 0 picture.columns.items) }
-    ensures part { IfOk result (λ picture.
-        picture.lines.items ≡ filter (is_within books.entry.wanted) arranged.now.drawn.items) }
-    ensures fates { IfOk result (λ picture.
-        map (λ e. told e.line) picture.lost.items ≡ filter is_element (told_lines books.entry.lines.now)) }
-{
-    let seats = seats_of(alloc, &books, arranged.rows.as_slice());
-    let sheet = sheet_of(&books, arranged.end, &seats);
-    let ends = ends_of(alloc, books.told, &sheet, books.lines);
-    let lanes = lanes_of(alloc, &books, &sheet, arranged.drawn.as_slice(), &ends);
-    if seats.full | ends.full | lanes.laid.full | lanes.rooms.full {
-        return Err(Memory);
-    }
-    picture_on(alloc, &books, arranged, &sheet, &ends, &lanes)
-}
-
-/// Where the lines of the books are drawn, before there are columns: the rows that are asked for, below the legend.
-fn sheet_of<'s, 'a>(
-    books: &Books<'s, 'a>,
-    end: u32,
-    seats: &'s Gathered<Seat<'a>>,
-) -> Sheet<'s, 'a> {
-    let first = books.wanted.from.saturating_sub(1).min(end);
-    Sheet {
-        seats: seats.as_slice(),
-        tags: books.tags,
-        columns: &[],
-        first,
-        until: end.min(books.wanted.to).max(first),
-        top: top_of(books.channels.names.len()),
-    }
-}
-
-/// The picture on a sheet, with these ends of elements and these arrows.
-fn picture_on<'a>(
-    alloc: Global,
-    books: &Books<'_, 'a>,
-    arranged: &Arranged<'a>,
-    sheet: &Sheet<'_, 'a>,
-    ends: &Gathered<End>,
-    lanes: &Lanes,
-) -> Result<Picture<'a>, Memory>
-    ensures names { IfOk result (λ picture. picture.names.now ≡ books.now.names.blocks.now) }
-    ensures tags { IfOk result (λ picture. map (λ c. c.tag) picture.columns.items ≡ books.now.tags.now) }
-    ensures beside { IfOk result (λ picture. StandBeside 0 picture.columns.items) }
-    ensures part { IfOk result (λ picture. picture.lines.items ≡ filter (is_within books.now.wanted) arranged.now.drawn.items) }
-    ensures fates { IfOk result (λ picture.
-        map (λ e. told e.line) picture.lost.items ≡ filter is_element (told_lines books.now.lines.now)) }
-{
     let mut picture = Picture {
         width: 0,
         height: 0,
-        top: sheet.top,
-        first: sheet.first,
+        top: top_of(books.channels.names.len()),
+        first: 0,
         names: books.names.blocks,
         columns: Vec::new(alloc),
         marks: Vec::new(alloc),
         lost: Vec::new(alloc),
         lines: Vec::new(alloc),
     };
-    fill(
-        &mut picture,
-        books,
-        arranged.drawn.as_slice(),
-        ends,
-        &lanes.rooms,
-    )?;
-    picture.height = height_of(sheet, books.lines);
-    let marks = marks_of(
-        alloc,
-        books,
-        arranged.numbers.as_slice(),
-        sheet,
-        &picture,
-        &lanes.laid,
-    )?;
-    picture.marks = marks;
-    Ok(picture)
+    match depict(alloc, &mut picture, arranged, books) {
+        Ok(()) => Ok(Drawing {
+            picture,
+            in_order: arranged.in_order,
+            all: all_have_columns(books.wanted, books.tags, books.lines),
+        }),
+        Err(fault) => Err(fault),
+    }
 }
 
-/// Adds the lines, the columns and the ends of elements to an empty picture.
+/// Arranges the lines, and makes an empty picture one of them.
+fn depict<'a>(
+    alloc: Global,
+    picture: &mut Picture<'a>,
+    arranged: &mut Arranged<'a>,
+    books: Books<'_, 'a>,
+) -> Result<(), Memory>
+    requires tags { books.tags.now ≡ tags_of books.wanted (told_lines books.lines.now) }
+    requires lines { picture.old.lines.items ≡ [] }
+    requires columns { picture.old.columns.items ≡ [] }
+    requires lost { picture.old.lost.items ≡ [] }
+    ensures names { OnOk result (picture.new.names.now ≡ picture.old.names.now) }
+    ensures shown { OnOk result (Shows arranged.new.in_order books.entry.wanted (told_lines books.entry.lines.now) picture.new) }
+{
+    arrange(alloc, arranged, books)?;
+    fill(alloc, picture, &books, arranged)?;
+    Ok(())
+}
+
+/// What a picture is made of besides its lines: the ends of its elements, its arrows, and what its columns take.
+#[derive(Drop)]
+struct Plan {
+    ends: Gathered<End>,
+    laid: Gathered<Laid>,
+    rooms: Gathered<Room>,
+}
+
+/// Makes an empty picture one of these lines, as they are arranged: in the rows that are asked for, below the legend.
 fn fill<'a>(
+    alloc: Global,
     picture: &mut Picture<'a>,
     books: &Books<'_, 'a>,
-    drawn: &[Drawn<'a>],
-    ends: &Gathered<End>,
-    rooms: &Gathered<Room>,
+    arranged: &Arranged<'a>,
 ) -> Result<(), Memory>
     requires lines { picture.old.lines.items ≡ [] }
     requires columns { picture.old.columns.items ≡ [] }
     requires lost { picture.old.lost.items ≡ [] }
     ensures names { OnOk result (picture.new.names.now ≡ picture.old.names.now) }
-    ensures part { OnOk result (picture.new.lines.items ≡ filter (is_within books.now.wanted) drawn.now) }
+    ensures part { OnOk result (picture.new.lines.items ≡ filter (is_within books.now.wanted) arranged.now.drawn.items) }
     ensures tags { OnOk result (map (λ c. c.tag) picture.new.columns.items ≡ books.now.tags.now) }
     ensures beside { OnOk result (StandBeside 0 picture.new.columns.items) }
     ensures fates { OnOk result (map (λ e. told e.line) picture.new.lost.items ≡ filter is_element (told_lines books.now.lines.now)) }
 {
-    add_part(&mut picture.lines, books.wanted, drawn)?;
-    let right = add_columns(&mut picture.columns, books.tags, rooms.as_slice())?;
-    picture.width = right.max(LEGEND);
-    let columns = picture.columns.as_slice();
-    add_lost(&mut picture.lost, columns, ends.as_slice(), books.lines)?;
-    Ok(())
+    let first = books.wanted.from.saturating_sub(1).min(arranged.end);
+    let sheet = Sheet {
+        seats: arranged.seats.as_slice(),
+        tags: books.tags,
+        columns: &[],
+        first,
+        until: arranged.end.min(books.wanted.to).max(first),
+        top: picture.top,
+    };
+    let plan = plan_of(alloc, books, &sheet, arranged.drawn.as_slice());
+    picture.first = first;
+    add_all(alloc, picture, books, arranged, &sheet, &plan)
 }
 
 /// Of each column the room that its head takes.
@@ -219,44 +204,109 @@ fn add_texts(rooms: &mut Vec<Room>, wanted: Wanted, drawn: &[Drawn], ends: &[End
     }
 }
 
-/// The arrows of a picture, and what its columns take.
-fn lanes_of<'a>(
+/// The plan of a picture of these lines.
+fn plan_of<'a>(
     alloc: Global,
     books: &Books<'_, 'a>,
     sheet: &Sheet<'_, 'a>,
     drawn: &[Drawn<'a>],
-    ends: &Gathered<End>,
-) -> Lanes {
+) -> Plan {
+    let ends = ends_of(alloc, books.told, sheet, books.lines);
     let mut rooms = heads_of(alloc, books.names.blocks, books.tags);
     add_texts(rooms.as_mut(), books.wanted, drawn, ends.as_slice());
     let laid = laid_in(alloc, sheet, books.channels.arrows.as_slice());
     add_lanes(rooms.as_mut(), laid.as_slice());
-    Lanes { laid, rooms }
+    Plan { ends, laid, rooms }
 }
 
-/// What is drawn before the lines of a picture, and below them.
+/// Adds the lines, the columns, the ends of elements and the marks to an empty picture.
+fn add_all<'a>(
+    alloc: Global,
+    picture: &mut Picture<'a>,
+    books: &Books<'_, 'a>,
+    arranged: &Arranged<'a>,
+    sheet: &Sheet<'_, 'a>,
+    plan: &Plan,
+) -> Result<(), Memory>
+    requires lines { picture.old.lines.items ≡ [] }
+    requires columns { picture.old.columns.items ≡ [] }
+    requires lost { picture.old.lost.items ≡ [] }
+    ensures names { OnOk result (picture.new.names.now ≡ picture.old.names.now) }
+    ensures part { OnOk result (picture.new.lines.items ≡ filter (is_within books.now.wanted) arranged.now.drawn.items) }
+    ensures tags { OnOk result (map (λ c. c.tag) picture.new.columns.items ≡ books.now.tags.now) }
+    ensures beside { OnOk result (StandBeside 0 picture.new.columns.items) }
+    ensures fates { OnOk result (map (λ e. told e.line) picture.new.lost.items ≡ filter is_element (told_lines books.now.lines.now)) }
+{
+    add_part(&mut picture.lines, books.wanted, arranged.drawn.as_slice())?;
+    let rooms = plan.rooms.as_slice();
+    let right = add_columns(&mut picture.columns, books.tags, rooms)?;
+    picture.width = right.max(LEGEND);
+    picture.height = height_of(sheet, books.lines);
+    let ends = plan.ends.as_slice();
+    add_lost(
+        &mut picture.lost,
+        picture.columns.as_slice(),
+        ends,
+        books.lines,
+    )?;
+    picture.marks = marks_of(alloc, books, arranged, sheet, picture, plan)?;
+    Ok(())
+}
+
+/// What is drawn before the lines of a picture, and below them, if memory held all that it is made of.
 fn marks_of<'a>(
     alloc: Global,
     books: &Books<'_, 'a>,
-    order: &[usize],
+    arranged: &Arranged<'a>,
     sheet: &Sheet<'_, 'a>,
     picture: &Picture<'a>,
-    laid: &Gathered<Laid>,
+    plan: &Plan,
 ) -> Result<Vec<Mark<'a>>, AllocError> {
-    let mut marks = Marks::new(alloc);
+    let is_missing = books.told.notes.full | books.channels.arrows.full | arranged.seats.full;
+    if is_missing | plan.ends.full | plan.laid.full | plan.rooms.full {
+        return Err(AllocError);
+    }
     let sheet = Sheet {
         columns: picture.columns.as_slice(),
         ..*sheet
     };
-    let size = (picture.width, picture.height);
+    draw_marks(
+        alloc,
+        &sheet,
+        (picture.width, picture.height),
+        books.channels.names.as_slice(),
+        books.told,
+        arranged.numbers.as_slice(),
+        picture.lines.as_slice(),
+        plan.laid.as_slice(),
+        picture.lost.as_slice(),
+        books.lines,
+    )
+}
+
+/// The marks of a picture of this size: its legend, and on the sheet the lives and the waits of what is told, in this order, the lines
+/// that are drawn, the arrows, the ends of elements and the feet of the columns.
+fn draw_marks<'a>(
+    alloc: Global,
+    sheet: &Sheet<'_, 'a>,
+    size: (u64, u64),
+    channels: &[&'a [u8]],
+    told: &BookLines<'a>,
+    order: &[usize],
+    drawn: &[Drawn<'a>],
+    laid: &[Laid],
+    lost: &[Lost<'a>],
+    lines: &[Line<'a>],
+) -> Result<Vec<Mark<'a>>, AllocError> {
+    let mut marks = Marks::new(alloc);
     marks.add_box((0, 0), size, Look::Paper, untitled());
-    add_legend(&mut marks, books.channels.names.as_slice());
-    add_lives(alloc, &mut marks, &sheet, books.told, order);
-    add_waits(alloc, &mut marks, &sheet, books.told);
-    add_ticks(&mut marks, &sheet, picture.lines.as_slice());
-    add_ways(&mut marks, &sheet, laid.as_slice());
-    add_crosses(&mut marks, picture.lost.as_slice());
-    add_feet(&mut marks, &sheet, books.told, books.lines);
+    add_legend(&mut marks, channels);
+    add_lives(alloc, &mut marks, sheet, told, order);
+    add_waits(alloc, &mut marks, sheet, told);
+    add_ticks(&mut marks, sheet, drawn);
+    add_ways(&mut marks, sheet, laid);
+    add_crosses(&mut marks, lost);
+    add_feet(&mut marks, sheet, told, lines);
     marks.whole()
 }
 

@@ -7,7 +7,7 @@ ghost use Rattle.report_picture.specs.Pictures.{is_element};
 use crate::layout::{INDENT, label_of, text_width};
 use crate::looks::Look;
 use crate::marks::{Marks, shown};
-use crate::notes::Fact;
+use crate::notes::{Fact, NO_NOTE, Note, Of};
 use crate::picture::{Column, Lost, Route, Spot};
 use crate::sheet::{NO_COLUMN, Sheet};
 use crate::told::{BookLines, first_of};
@@ -37,15 +37,24 @@ const NO_END: End = End {
 
 /// The line of the books at which the element ended whose line this is.
 fn end_of<'a>(told: &BookLines<'a>, line: &'a [u8]) -> usize {
-    let channel = word(1, line);
-    let place = word(2, line);
-    let gives_up = told.at_place(Fact::GivesUp, channel, place);
-    let brings = told.at_place(Fact::Brings, channel, place);
-    first_of(gives_up, first_of(told.settled_at(channel, place), brings))
+    let note = Note {
+        channel: word(1, line),
+        place: word(2, line),
+        ..NO_NOTE
+    };
+    let gives_up = told.said(Fact::GivesUp, Of::Subject, &note);
+    let waiting = told.note(told.said(Fact::Awaits, Of::Subject, &note));
+    let settled = told.said(Fact::Settles, Of::Wait, &waiting);
+    let brings = told.said(Fact::Brings, Of::Subject, &note);
+    first_of(gives_up, first_of(settled, brings))
 }
 
-/// The end at a line of the books of an element with a text of so many bytes.
-fn end_at<'a>(sheet: &Sheet<'_, 'a>, number: usize, bytes: usize) -> End {
+/// The end of the element of a line.
+fn end_in<'a>(told: &BookLines<'a>, sheet: &Sheet<'_, 'a>, line: Line<'a>) -> End {
+    if !matches!(line.said, Said::Element) {
+        return NO_END;
+    }
+    let number = end_of(told, line.text);
     let seat = sheet.seat(number);
     let before = label_of(seat.title.line).len();
     End {
@@ -56,15 +65,7 @@ fn end_at<'a>(sheet: &Sheet<'_, 'a>, number: usize, bytes: usize) -> End {
         },
         y: sheet.y(number),
         before,
-        bytes: before.saturating_add(bytes),
-    }
-}
-
-/// The end of the element of a line.
-fn end_in<'a>(told: &BookLines<'a>, sheet: &Sheet<'_, 'a>, line: Line<'a>) -> End {
-    match line.said {
-        Said::Element => end_at(sheet, end_of(told, line.text), line.text.len()),
-        Said::Note(_) | Said::Job(_) => NO_END,
+        bytes: before.saturating_add(line.text.len()),
     }
 }
 

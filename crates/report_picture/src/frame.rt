@@ -1,7 +1,7 @@
 //! What is round the lives: the legend, and the feet of the columns.
 
 use crate::arrows::shade_of;
-use crate::layout::BAR;
+use crate::layout::{BAR, label_of};
 use crate::lives::hangs;
 use crate::looks::{Look, State};
 use crate::marks::{Marks, shown, untitled};
@@ -9,7 +9,7 @@ use crate::picture::Route;
 use crate::sheet::Sheet;
 use crate::told::BookLines;
 use gathered::NOWHERE;
-use report_reader::{Line, Said, cut_at};
+use report_reader::{Line, Said};
 
 /// How wide an entry of the legend is, and how many there are in a row.
 const ENTRY: u64 = 190;
@@ -56,27 +56,26 @@ pub(crate) fn add_legend<'a>(marks: &mut Marks<'a>, channels: &[&'a [u8]]) {
     }
 }
 
-/// An entry, by its number among all.
+/// An entry, by its number among all: a bar, a thin one, or a way, and a text.
 fn add_entry<'a>(marks: &mut Marks<'a>, number: usize, look: Look, texts: (&[u8], &[u8])) {
     let column = (number % ENTRIES) as u64;
     let row = (number / ENTRIES) as u64;
     let x = column.saturating_mul(ENTRY).saturating_add(20);
     let y = row.saturating_mul(24).saturating_add(24);
-    add_sample(marks, x, y, look);
+    let width = match look {
+        Look::Life(_) => BAR,
+        Look::Past => 2,
+        _ => 0,
+    };
+    if width == 0 {
+        marks.add_path(sample_way(x, y, look), look, untitled());
+    } else {
+        let left = x.saturating_add((BAR - width) / 2);
+        let place = (left, y.saturating_sub(12));
+        marks.add_box(place, (width, 16), look, untitled());
+    }
     let place = (x.saturating_add(BAR + 8), y);
     marks.add_text(place, Look::Label, texts, untitled());
-}
-
-fn add_sample<'a>(marks: &mut Marks<'a>, x: u64, y: u64, look: Look) {
-    let top = y.saturating_sub(12);
-    match look {
-        Look::Life(_) => marks.add_box((x, top), (BAR, 16), look, untitled()),
-        Look::Past => {
-            let middle = x.saturating_add(BAR / 2 - 1);
-            marks.add_box((middle, top), (2, 16), look, untitled());
-        }
-        _ => marks.add_path(sample_way(x, y, look), look, untitled()),
-    }
 }
 
 /// An arrow to the right, a cross, or a stretch down.
@@ -103,17 +102,6 @@ fn sample_way(x: u64, y: u64, look: Look) -> Route {
     }
 }
 
-/// What stands behind the first word of a text, if that is not its only one.
-fn behind_word(text: &[u8]) -> &[u8] {
-    let (_word, rest) = cut_at(b' ', text);
-    rest.unwrap_or(text)
-}
-
-/// Where the feet of the columns are.
-fn feet_y(sheet: &Sheet) -> u64 {
-    sheet.bottom().saturating_add(16)
-}
-
 /// Where what is below the Job of this line is, if that has no column here; where it is else.
 fn below_job(sheet: &Sheet, said: Said, y: u64) -> u64 {
     match said {
@@ -124,7 +112,7 @@ fn below_job(sheet: &Sheet, said: Said, y: u64) -> u64 {
 
 /// Where the picture ends of a report of these lines: below the Jobs without a column.
 pub(crate) fn height_of(sheet: &Sheet, lines: &[Line]) -> u64 {
-    let mut y = feet_y(sheet).saturating_add(24);
+    let mut y = sheet.bottom().saturating_add(40);
     for line in lines {
         y = below_job(sheet, line.said, y);
     }
@@ -164,9 +152,9 @@ fn foot_of<'a>(
         (Look::Foot, b"".as_slice())
     };
     Foot {
-        place: (sheet.left_of(column), feet_y(sheet)),
+        place: (sheet.left_of(column), sheet.bottom().saturating_add(16)),
         look,
-        said: behind_word(behind_word(line)),
+        said: label_of(label_of(line)),
         behind,
     }
 }
@@ -178,7 +166,7 @@ pub(crate) fn add_feet<'a>(
     told: &BookLines<'a>,
     lines: &[Line<'a>],
 ) {
-    let mut y = feet_y(sheet).saturating_add(24);
+    let mut y = sheet.bottom().saturating_add(40);
     for line in lines {
         if let Said::Job(row) = line.said {
             let foot = foot_of(sheet, told, row, line.text, y);

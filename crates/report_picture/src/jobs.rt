@@ -2,7 +2,7 @@
 
 use crate::keyed::Numbers;
 use crate::looks::State;
-use crate::notes::{Fact, Note, Of};
+use crate::notes::{Fact, Note, Of, Verb};
 use crate::told::BookLines;
 use gathered::{Gathered, NOWHERE, at, put};
 use std::alloc::Global;
@@ -56,43 +56,44 @@ impl Stretch {
     }
 }
 
-/// The stretch of the Job of a row that a line begins.
-fn stretch_of(told: &BookLines, row: u32, state: State, since: usize) -> Stretch {
-    let attach = told.of_row(Fact::Attaches, row);
-    let note = told.note(attach);
-    let is_scope = !note.verb.launches;
+/// The stretch that a line begins of the Job of its row, or of that of its own coroutine.
+fn stretch_of<'a>(
+    told: &BookLines<'a>,
+    note: &Note<'a>,
+    of: Of,
+    state: State,
+    since: usize,
+) -> Stretch {
+    let (_, row, _, _) = note.key(Fact::Attaches, of);
+    let attach = told.said(Fact::Attaches, of, note);
+    let by = told.note(attach);
+    let is_scope = by.verb == Verb::Attach as usize;
     Stretch {
         row,
-        tag: if is_scope { note.tag } else { row },
+        tag: if is_scope { by.tag } else { row },
         is_scope,
-        is_first: false,
+        is_first: matches!(of, Of::Own),
         state,
         attach,
         since,
         until: NOWHERE,
-        last: told.of_row(Fact::Last, row),
+        last: told.said(Fact::Last, of, note),
     }
 }
 
 /// What a line says, if it is the first of a coroutine: that the Job of that is Active.
-fn first_of(told: &BookLines, number: usize) -> Stretch {
-    let tag = told.note(number).tag;
-    if told.of_row(Fact::First, tag) == number {
-        let active = stretch_of(told, tag, State::Active, number);
-        Stretch {
-            is_first: true,
-            ..active
-        }
+fn first_of<'a>(told: &BookLines<'a>, note: &Note<'a>, number: usize) -> Stretch {
+    if told.said(Fact::First, Of::Own, note) == number {
+        stretch_of(told, note, Of::Own, State::Active, number)
     } else {
         NO_STRETCH
     }
 }
 
 /// What else a line says of a Job, if it does.
-fn next_of(told: &BookLines, number: usize) -> Stretch {
-    let note = told.note(number);
-    match note.state() {
-        Some(state) => stretch_of(told, note.row, state, number),
+fn next_of<'a>(told: &BookLines<'a>, note: &Note<'a>, number: usize) -> Stretch {
+    match note.state {
+        Some(state) => stretch_of(told, note, Of::Subject, state, number),
         None => NO_STRETCH,
     }
 }
@@ -106,25 +107,30 @@ pub(crate) struct Jobs {
     pub(crate) stretches: Gathered<Stretch>,
     /// The last stretch of each Job, and the number of that of each row.
     last: Gathered<Stretch>,
-    numbers: Numbers<u32>,
+    numbers: Numbers<'static>,
 }
 
 impl Jobs {
-    /// The last stretch of the Job of a row.
-    pub(crate) fn last_of(&self, row: u32) -> Stretch {
-        at(self.last.as_slice(), self.numbers.at(row), NO_STRETCH)
+    /// The last stretches of the Jobs of these coroutines.
+    pub(crate) fn last_of(&self, alloc: Global, tags: &[u32]) -> Gathered<Stretch> {
+        let mut last = Gathered::new(alloc);
+        for tag in tags {
+            let number = self.numbers.at((0, *tag, b"", b""));
+            last.add(at(self.last.as_slice(), number, NO_STRETCH));
+        }
+        last
     }
 
     /// A Job begins in a stretch, if it has none; else it comes to it, if it does.
     fn pass(&mut self, new: Stretch) {
-        let number = self.numbers.at(new.row);
+        let number = self.numbers.at((0, new.row, b"", b""));
         let old = at(self.last.as_slice(), number, NO_STRETCH);
         if number == NOWHERE {
             self.begun.add(Stretch {
                 is_first: false,
                 ..new
             });
-            self.numbers.put(new.row, self.last.len());
+            self.numbers.put((0, new.row, b"", b""), self.last.len());
             self.last.add(new);
         } else if old.comes_to(&new) {
             let until = new.since;
@@ -134,37 +140,32 @@ impl Jobs {
     }
 
     /// Passes the lines in this order; those that it has no place for in that of the report.
-    fn pass_lines(&mut self, told: &BookLines, order: &[usize]) {
+    fn pass_lines<'a>(&mut self, told: &BookLines<'a>, order: &[usize]) {
         for place in 0..told.notes.len() {
             let number = at(order, place, place);
-            let first = first_of(told, number);
+            let note = told.note(number);
+            let first = first_of(told, &note, number);
             if first.since != NOWHERE {
                 self.begun.add(first);
                 self.pass(first);
             }
-            let next = next_of(told, number);
+            let next = next_of(told, &note, number);
             if next.since != NOWHERE {
                 self.pass(next);
             }
         }
     }
 
-    /// Adds the last stretches, and tells whether memory held all.
-    pub(crate) fn end(&mut self) -> bool {
+    /// Adds the last stretches. Whether memory held all is asked of the stretches then.
+    pub(crate) fn end(&mut self) {
         self.stretches.add_all(self.last.as_slice());
-        !(self.begun.full | self.last.full | self.numbers.full | self.stretches.full)
-    }
-
-    /// Sorts the stretches by who attached the Job, those of a Job within another behind that, and tells whether memory sufficed.
-    pub(crate) fn sort(&mut self) -> bool {
-        let stretches = self.stretches.as_mut();
-        let sorted = stretches.sort_by_key(|one| (one.attach, one.since));
-        sorted.is_ok()
+        let is_missing = self.begun.full | self.last.full | self.numbers.full;
+        self.stretches.full = self.stretches.full | is_missing;
     }
 }
 
 /// What the Jobs go through in the lines of the books, in this order; in that of the report, where it is empty.
-pub(crate) fn jobs_of(alloc: Global, told: &BookLines, order: &[usize]) -> Jobs {
+pub(crate) fn jobs_of<'a>(alloc: Global, told: &BookLines<'a>, order: &[usize]) -> Jobs {
     let mut jobs = Jobs {
         begun: Gathered::new(alloc),
         stretches: Gathered::new(alloc),
@@ -184,24 +185,20 @@ pub(crate) struct Wait<'a> {
     pub(crate) to: usize,
 }
 
-/// The wait that a line begins.
-fn wait_of<'a>(told: &BookLines<'a>, note: &Note<'a>, number: usize) -> Wait<'a> {
-    Wait {
-        tag: note.tag,
-        name: note.wait,
-        from: number,
-        to: told.said(Fact::Settles, Of::Wait, note),
-    }
-}
-
-/// The waits, in the order of the report.
+/// The waits, in the order of the report: each begins at the first of the lines in a row that place it.
 pub(crate) fn waits_in<'a>(alloc: Global, told: &BookLines<'a>) -> Gathered<Wait<'a>> {
     let mut waits = Gathered::new(alloc);
-    let mut last = NOWHERE;
+    let mut last = (u32::MAX, b" ".as_slice());
     for (number, note) in told.notes.as_slice().iter().enumerate() {
-        if told.begins_wait(note, last) {
-            last = number;
-            waits.add(wait_of(told, note, number));
+        let is_last = note.tag == last.0 && note.wait == last.1;
+        if note.waits() && !is_last {
+            last = (note.tag, note.wait);
+            waits.add(Wait {
+                tag: note.tag,
+                name: note.wait,
+                from: number,
+                to: told.said(Fact::Settles, Of::Wait, note),
+            });
         }
     }
     waits

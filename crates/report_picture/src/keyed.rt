@@ -3,17 +3,19 @@
 use gathered::NOWHERE;
 use std::alloc::Global;
 use std::collections::HashMap;
-use std::hash::Hash;
+
+/// What is said, and of what: a row, or a channel and a place, or a wait in that of a place.
+pub(crate) type Key<'a> = (usize, u32, &'a [u8], &'a [u8]);
 
 /// A number for each of some keys, and whether memory ran out as they were told.
 #[derive(Drop)]
-pub(crate) struct Numbers<K: Hash + Eq + Copy> {
-    numbers: HashMap<K, usize>,
+pub(crate) struct Numbers<'a> {
+    numbers: HashMap<Key<'a>, usize>,
     pub(crate) full: bool,
 }
 
-impl<K: Hash + Eq + Copy> Numbers<K> {
-    pub(crate) fn new(alloc: Global) -> Numbers<K> {
+impl<'a> Numbers<'a> {
+    pub(crate) fn new(alloc: Global) -> Numbers<'a> {
         Numbers {
             numbers: HashMap::new(alloc),
             full: false,
@@ -21,23 +23,16 @@ impl<K: Hash + Eq + Copy> Numbers<K> {
     }
 
     /// The number of a key; that of nowhere, if it has none.
-    pub(crate) fn at(&self, key: K) -> usize {
+    pub(crate) fn at(&self, key: Key<'a>) -> usize {
         match self.numbers.get(&key) {
             Some(number) => *number,
             None => NOWHERE,
         }
     }
 
-    pub(crate) fn put(&mut self, key: K, number: usize) {
+    pub(crate) fn put(&mut self, key: Key<'a>, number: usize) {
         if self.numbers.insert(key, number).is_err() {
             self.full = true;
-        }
-    }
-
-    /// Gives a key a number, if it has none.
-    pub(crate) fn put_first(&mut self, key: K, number: usize) {
-        if self.at(key) == NOWHERE {
-            self.put(key, number);
         }
     }
 }

@@ -3,7 +3,7 @@
 //! The arrows into a column are gone through from the top down. Each gets the first lane that is free over all its rows.
 
 use crate::arrows::Arrow;
-use crate::layout::{BAR, LEVEL, NO_ROOM, Room, lane_x};
+use crate::layout::{BAR, LANE, LEVEL, NO_ROOM, Room};
 use crate::looks::Look;
 use crate::marks::Marks;
 use crate::picture::Route;
@@ -154,7 +154,7 @@ pub(crate) fn add_lanes(rooms: &mut Vec<Room>, laid: &[Laid]) {
 fn way_of<'a>(sheet: &Sheet<'_, 'a>, one: &Laid) -> Route {
     let from = one.arrow.from;
     let left = sheet.left_of(one.column);
-    let lane = lane_x(left, one.lane);
+    let lane = left.saturating_sub(u64::from(one.lane) * LANE + 10);
     let y = sheet.y(from);
     let to_y = sheet.y(one.arrow.to);
     let to_x = left.saturating_sub(1);
@@ -179,11 +179,4 @@ pub(crate) fn add_ways<'a>(marks: &mut Marks<'a>, sheet: &Sheet<'_, 'a>, laid: &
         let title = sheet.seat(one.arrow.from).title;
         marks.add_path(way_of(sheet, one), one.arrow.look, title);
     }
-}
-
-/// The arrows that are drawn, and of each column what it takes.
-#[derive(Drop)]
-pub(crate) struct Lanes {
-    pub(crate) laid: Gathered<Laid>,
-    pub(crate) rooms: Gathered<Room>,
 }

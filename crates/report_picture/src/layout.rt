@@ -16,7 +16,7 @@ pub(crate) const BAR: u64 = 10;
 const MARGIN: u64 = 16;
 
 /// How far apart the lanes of arrows are.
-const LANE: u64 = 5;
+pub(crate) const LANE: u64 = 5;
 
 /// How far right of the left end of a bar the texts of its lines begin.
 pub(crate) const INDENT: u64 = 16;
@@ -32,11 +32,6 @@ pub(crate) fn row_y(top: u32, row: u32) -> u64
     ensures { result ≡ row_y top row }
 {
     u64::from(top) + 40 + 17 * u64::from(row)
-}
-
-/// Where a lane is from the left, by where its bar begins.
-pub(crate) fn lane_x(left: u64, lane: u32) -> u64 {
-    left.saturating_sub(u64::from(lane).saturating_mul(LANE).saturating_add(10))
 }
 
 /// How far left of a bar there is room, with so many lanes.

@@ -22,7 +22,7 @@
 //! What is round the lines:
 //!
 //! - `layout`: where rows, columns and texts are.
-//! - `sheet`: what the marks are made of.
+//! - `sheet`: where the lines of the books are drawn.
 //! - `marks`: marks, added one by one.
 //! - `jobs`: what the Jobs go through, and the waits.
 //! - `lives`: the lives of the coroutines, and their waits.

@@ -1,14 +1,14 @@
 //! The lives of the coroutines, and their waits.
 
-use crate::jobs::{Jobs, Stretch, Wait, jobs_of, waits_in};
+use crate::jobs::{Stretch, Wait, jobs_of, waits_in};
 use crate::layout::{BAR, HALF};
 use crate::looks::Look;
 use crate::marks::Marks;
-use crate::notes::{Fact, Of};
+use crate::notes::{Fact, NO_NOTE, Note, Of};
 use crate::picture::{Route, Title};
 use crate::sheet::Sheet;
 use crate::told::BookLines;
-use gathered::{Gathered, NOWHERE};
+use gathered::NOWHERE;
 use std::alloc::Global;
 
 /// How high the end of a life is.
@@ -97,15 +97,6 @@ fn add_stretches<'a>(
     }
 }
 
-/// The last stretches of the Jobs of these coroutines.
-fn last_of(alloc: Global, jobs: &Jobs, tags: &[u32]) -> Gathered<Stretch> {
-    let mut last = Gathered::new(alloc);
-    for tag in tags {
-        last.add(jobs.last_of(*tag));
-    }
-    last
-}
-
 /// The lives, each in stretches of one state of its Job, and on them the Jobs of scopes, those within others behind them.
 pub(crate) fn add_lives<'a>(
     alloc: Global,
@@ -115,14 +106,14 @@ pub(crate) fn add_lives<'a>(
     order: &[usize],
 ) {
     let mut jobs = jobs_of(alloc, told, order);
-    let last = last_of(alloc, &jobs, sheet.tags);
+    let last = jobs.last_of(alloc, sheet.tags);
     add_stretches(marks, sheet, jobs.stretches.as_slice(), false);
     add_stretches(marks, sheet, last.as_slice(), false);
-    let is_whole = jobs.end() & jobs.sort() & !last.full;
+    jobs.end();
+    let stretches = jobs.stretches.as_mut();
+    let sorted = stretches.sort_by_key(|one| (one.attach, one.since));
     add_stretches(marks, sheet, jobs.stretches.as_slice(), true);
-    if !is_whole {
-        marks.run_out();
-    }
+    marks.miss(last.full | jobs.stretches.full | sorted.is_err());
 }
 
 /// Adds a wait, if its coroutine has a column.
@@ -148,13 +139,12 @@ pub(crate) fn add_waits<'a>(
     for wait in waits.as_slice() {
         add_wait(marks, sheet, wait);
     }
-    if waits.full {
-        marks.run_out();
-    }
+    marks.miss(waits.full);
 }
 
 /// Whether the coroutine with this tag waits, and nothing ended its wait.
-pub(crate) fn hangs(told: &BookLines, tag: u32) -> bool {
-    let last = told.note(told.of_row(Fact::Last, tag));
-    last.verb.waits && told.said(Fact::Settles, Of::Wait, &last) == NOWHERE
+pub(crate) fn hangs<'a>(told: &BookLines<'a>, tag: u32) -> bool {
+    let own = Note { tag, ..NO_NOTE };
+    let last = told.note(told.said(Fact::Last, Of::Own, &own));
+    last.waits() && told.said(Fact::Settles, Of::Wait, &last) == NOWHERE
 }

@@ -30,9 +30,9 @@ impl<'a> Marks<'a> {
         }
     }
 
-    /// Memory ran out as a mark was made.
-    pub(crate) fn run_out(&mut self) {
-        self.marks.full = true;
+    /// Marks are missing, if this says so.
+    pub(crate) fn miss(&mut self, is_missing: bool) {
+        self.marks.full = self.marks.full | is_missing;
     }
 
     pub(crate) fn add_box(
@@ -72,7 +72,7 @@ impl<'a> Marks<'a> {
                 text,
                 title,
             }),
-            Err(_) => self.run_out(),
+            Err(_) => self.miss(true),
         }
     }
 

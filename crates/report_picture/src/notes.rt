@@ -1,8 +1,9 @@
 //! What the lines of the books say, as far as a picture shows it, and to which other lines they lead.
 
+use crate::keyed::Key;
 use crate::looks::{Look, State};
 use gathered::{NOWHERE, at};
-use report_reader::{Line, Said, value_of};
+use report_reader::value_of;
 
 /// What a line can say: of a place of a channel, of a wait, of a channel, or of the row of a Job.
 #[derive(Clone, Copy)]
@@ -78,7 +79,7 @@ pub(crate) enum Way {
 /// What a line says, and of what; where no line says that, one says the third, and else the fourth.
 pub(crate) type Says = (Fact, Of, Fact, Fact);
 
-const NOTHING: Says = (Fact::Nothing, Of::Own, Fact::Nothing, Fact::Nothing);
+pub(crate) const NOTHING: Says = (Fact::Nothing, Of::Own, Fact::Nothing, Fact::Nothing);
 
 const ATTACHED: Says = (Fact::Attaches, Of::Subject, Fact::Nothing, Fact::Nothing);
 
@@ -89,7 +90,7 @@ const FINISHED: Says = (Fact::Finishes, Of::Subject, Fact::Nothing, Fact::Nothin
 const AWAITED: Says = (Fact::Awaits, Of::Subject, Fact::Nothing, Fact::Nothing);
 
 /// What the line says to which each way leads first, in the order of the ways.
-const FIRSTS: [Says; 21] = [
+pub(crate) const FIRSTS: [Says; 21] = [
     NOTHING,
     NOTHING,
     ATTACHED,
@@ -112,11 +113,6 @@ const FIRSTS: [Says; 21] = [
     (Fact::Settles, Of::Wait, Fact::Nothing, Fact::Nothing),
     (Fact::Late, Of::Wait, Fact::Nothing, Fact::Nothing),
 ];
-
-/// What the line says to which a way leads first.
-pub(crate) fn first_on(way: Way) -> Says {
-    at(&FIRSTS, way as usize, NOTHING)
-}
 
 /// The verbs. A line with an `attach`, a `cancel` or a `finish` can have a word for how it is: those with such a word come last, and before
 /// them the same with any other.
@@ -208,7 +204,7 @@ const OF_HOWS: [Verb; 6] = [
 
 /// Which words of a line are what: it is of a channel, of a place of one, of a place and a wait, of a wait, of a row, or of two.
 #[derive(Clone, Copy)]
-enum Form {
+pub(crate) enum Form {
     Other,
     Channel,
     Place,
@@ -236,42 +232,75 @@ const PARTS: [Parts; 8] = [
     (NOWHERE, NOWHERE, NOWHERE, 2, 4),
 ];
 
-const NO_SAYING: (Fact, Form, Option<State>) = (Fact::Nothing, Form::Other, None);
+/// What a verb says, and of what, which words its lines have, and the state that it brings the Job of its row to.
+pub(crate) type Saying = (Fact, Of, Form, Option<State>);
 
-/// What each verb says, which words its lines have, and the state that it brings the Job of its row to.
-const SAYINGS: [(Fact, Form, Option<State>); 32] = [
-    (Fact::Brings, Form::Place, None),
-    (Fact::Brings, Form::Place, None),
-    (Fact::Brings, Form::Offer, None),
-    (Fact::Awaits, Form::Await, None),
-    (Fact::Takes, Form::Place, None),
-    (Fact::Admits, Form::Place, None),
-    (Fact::GivesUp, Form::Place, None),
-    (Fact::GivesUp, Form::Place, None),
-    (Fact::GivesUp, Form::Place, None),
-    (Fact::Wakes, Form::Place, None),
-    (Fact::Closes, Form::Channel, None),
-    (Fact::Nothing, Form::Channel, None),
-    (Fact::Nothing, Form::Channel, None),
-    (Fact::Nothing, Form::Channel, None),
-    (Fact::Nothing, Form::Channel, None),
-    (Fact::Settles, Form::Wait, None),
-    (Fact::Nothing, Form::Wait, None),
-    (Fact::Late, Form::Wait, None),
-    (Fact::Starts, Form::Row, Some(State::Active)),
-    (Fact::Nothing, Form::Row, Some(State::Completing)),
-    (Fact::Nothing, Form::Row, None),
-    (Fact::Nothing, Form::Row, None),
-    (Fact::Nothing, Form::Row, None),
-    (Fact::Attaches, Form::Rows, Some(State::Active)),
-    (Fact::Cancels, Form::Rows, Some(State::Cancelling)),
-    (Fact::Finishes, Form::Row, Some(State::Failed)),
-    (Fact::Attaches, Form::Rows, Some(State::Active)),
-    (Fact::Attaches, Form::Rows, Some(State::New)),
-    (Fact::Cancels, Form::Rows, Some(State::Cancelling)),
-    (Fact::Cancels, Form::Rows, Some(State::Cancelling)),
-    (Fact::Finishes, Form::Row, Some(State::Completed)),
-    (Fact::Finishes, Form::Row, Some(State::Cancelled)),
+pub(crate) const NO_SAYING: Saying = (Fact::Nothing, Of::Subject, Form::Other, None);
+
+/// That of each verb.
+pub(crate) const SAYINGS: [Saying; 32] = [
+    (Fact::Brings, Of::Subject, Form::Place, None),
+    (Fact::Brings, Of::Subject, Form::Place, None),
+    (Fact::Brings, Of::Subject, Form::Offer, None),
+    (Fact::Awaits, Of::Subject, Form::Await, None),
+    (Fact::Takes, Of::Subject, Form::Place, None),
+    (Fact::Admits, Of::Subject, Form::Place, None),
+    (Fact::GivesUp, Of::Subject, Form::Place, None),
+    (Fact::GivesUp, Of::Subject, Form::Place, None),
+    (Fact::GivesUp, Of::Subject, Form::Place, None),
+    (Fact::Wakes, Of::Subject, Form::Place, None),
+    (Fact::Closes, Of::Subject, Form::Channel, None),
+    (Fact::Nothing, Of::Subject, Form::Channel, None),
+    (Fact::Nothing, Of::Subject, Form::Channel, None),
+    (Fact::Nothing, Of::Subject, Form::Channel, None),
+    (Fact::Nothing, Of::Subject, Form::Channel, None),
+    (Fact::Settles, Of::Wait, Form::Wait, None),
+    (Fact::Nothing, Of::Subject, Form::Wait, None),
+    (Fact::Late, Of::Wait, Form::Wait, None),
+    (Fact::Starts, Of::Subject, Form::Row, Some(State::Active)),
+    (
+        Fact::Nothing,
+        Of::Subject,
+        Form::Row,
+        Some(State::Completing),
+    ),
+    (Fact::Nothing, Of::Subject, Form::Row, None),
+    (Fact::Nothing, Of::Subject, Form::Row, None),
+    (Fact::Nothing, Of::Subject, Form::Row, None),
+    (Fact::Attaches, Of::Subject, Form::Rows, Some(State::Active)),
+    (
+        Fact::Cancels,
+        Of::Subject,
+        Form::Rows,
+        Some(State::Cancelling),
+    ),
+    (Fact::Finishes, Of::Subject, Form::Row, Some(State::Failed)),
+    (Fact::Attaches, Of::Subject, Form::Rows, Some(State::Active)),
+    (Fact::Attaches, Of::Subject, Form::Rows, Some(State::New)),
+    (
+        Fact::Cancels,
+        Of::Subject,
+        Form::Rows,
+        Some(State::Cancelling),
+    ),
+    (
+        Fact::Cancels,
+        Of::Subject,
+        Form::Rows,
+        Some(State::Cancelling),
+    ),
+    (
+        Fact::Finishes,
+        Of::Subject,
+        Form::Row,
+        Some(State::Completed),
+    ),
+    (
+        Fact::Finishes,
+        Of::Subject,
+        Form::Row,
+        Some(State::Cancelled),
+    ),
 ];
 
 /// Which lines stand above which others, by the ways to them from a line with this verb.
@@ -322,12 +351,12 @@ pub(crate) const ARROWS: [(Verb, Way, Way, Look); 5] = [
 /// which tells whom it concerns, and what of that.
 pub(crate) type Links = (Way, Way, Way, Of);
 
-const NO_LINKS: Links = (Way::Nowhere, Way::Nowhere, Way::Here, Of::Own);
+pub(crate) const NO_LINKS: Links = (Way::Nowhere, Way::Nowhere, Way::Here, Of::Own);
 
 const TO_SUBJECT: Links = (Way::Nowhere, Way::Nowhere, Way::Here, Of::Subject);
 
 /// Those of each verb.
-const LINKS: [Links; 32] = [
+pub(crate) const LINKS: [Links; 32] = [
     (Way::GoneOn, Way::Nowhere, Way::Awaited, Of::Own),
     (Way::Taken, Way::Nowhere, Way::Here, Of::Own),
     (Way::Taken, Way::Sent, Way::Here, Of::Own),
@@ -386,24 +415,16 @@ fn verb_number<'a>(words: &[&'a [u8]]) -> usize {
     }
 }
 
-/// What the verb of a line says.
-#[derive(Clone, Copy)]
-pub(crate) struct Saying {
-    /// The number of the verb; that of nowhere, if it is none of them.
-    pub(crate) number: usize,
-    /// Whether it attaches the Job of a coroutine, and not that of a scope.
-    pub(crate) launches: bool,
-    /// Whether it places a wait.
-    pub(crate) waits: bool,
-}
-
 /// The line of a book, taken apart. What its verb does not have is 0, or empty.
 #[derive(Clone, Copy)]
 pub(crate) struct Note<'a> {
     pub(crate) text: &'a [u8],
     /// The coroutine.
     pub(crate) tag: u32,
-    pub(crate) verb: Saying,
+    /// The number of the verb; that of nowhere, if it is none of them.
+    pub(crate) verb: usize,
+    /// The state that it brings the Job of its row to, if it does.
+    pub(crate) state: Option<State>,
     /// The channel and the place.
     pub(crate) channel: &'a [u8],
     pub(crate) place: &'a [u8],
@@ -417,15 +438,12 @@ pub(crate) struct Note<'a> {
     pub(crate) cancelled: bool,
 }
 
-/// That of no line: its words are such as no line has. The Job that none attached is the root's, which is that of a coroutine.
+/// That of no line: its words are such as no line has.
 pub(crate) const NO_NOTE: Note<'static> = Note {
     text: b"",
     tag: u32::MAX,
-    verb: Saying {
-        number: NOWHERE,
-        launches: true,
-        waits: false,
-    },
+    verb: NOWHERE,
+    state: None,
     channel: b" ",
     place: b" ",
     wait: b" ",
@@ -441,51 +459,32 @@ fn number_at<'a>(words: &[&'a [u8]], i: usize) -> u32 {
 
 /// Takes the line of a book apart.
 pub(crate) fn note_of<'a>(tag: u32, text: &'a [u8], words: &[&'a [u8]]) -> Note<'a> {
-    let number = verb_number(words);
-    let (fact, form, _) = at(&SAYINGS, number, NO_SAYING);
+    let verb = verb_number(words);
+    let (fact, _, form, state) = at(&SAYINGS, verb, NO_SAYING);
     let (channel, place, wait, row, other) = at(&PARTS, form as usize, NO_PARTS);
+    let cancelled = matches!(fact, Fact::Attaches) && words.len() > 8;
     Note {
         text,
         tag,
-        verb: Saying {
-            number,
-            launches: (number == Verb::AttachPlain as usize)
-                | (number == Verb::AttachLazy as usize),
-            waits: (number == Verb::Offer as usize) | (number == Verb::Await as usize),
+        verb,
+        state: if cancelled {
+            Some(State::Cancelling)
+        } else {
+            state
         },
         channel: at(words, channel, b""),
         place: at(words, place, b""),
         wait: at(words, wait, b""),
         row: number_at(words, row),
         other: number_at(words, other),
-        cancelled: matches!(fact, Fact::Attaches) && words.len() > 8,
+        cancelled,
     }
 }
 
-/// What is said, and of what: a row, or a channel and a place, or a wait in that of a place.
-pub(crate) type Key<'a> = (usize, u32, &'a [u8], &'a [u8]);
-
 impl<'a> Note<'a> {
-    /// The line itself.
-    pub(crate) fn line(&self) -> Line<'a> {
-        Line {
-            said: Said::Note(self.tag),
-            text: self.text,
-        }
-    }
-
-    /// The state that it brings the Job of its row to, if it does.
-    pub(crate) fn state(&self) -> Option<State> {
-        if self.cancelled {
-            return Some(State::Cancelling);
-        }
-        let (_, _, state) = at(&SAYINGS, self.verb.number, NO_SAYING);
-        state
-    }
-
-    /// The ways from the line to others.
-    pub(crate) fn links(&self) -> Links {
-        at(&LINKS, self.verb.number, NO_LINKS)
+    /// Whether it places a wait.
+    pub(crate) fn waits(&self) -> bool {
+        (self.verb == Verb::Offer as usize) | (self.verb == Verb::Await as usize)
     }
 
     /// This fact, of what the line says it of. A line about a row has no channel and no place.
@@ -497,15 +496,5 @@ impl<'a> Note<'a> {
             Of::Wait => (fact, 0, b"", self.wait),
             Of::Own => (fact, self.tag, b"", b""),
         }
-    }
-
-    /// What it says itself; of a wait it settles it, or comes late.
-    pub(crate) fn said(&self) -> Key<'a> {
-        let (fact, _, _) = at(&SAYINGS, self.verb.number, NO_SAYING);
-        let of = match fact {
-            Fact::Settles | Fact::Late => Of::Wait,
-            _ => Of::Subject,
-        };
-        self.key(fact, of)
     }
 }

@@ -1,6 +1,7 @@
 //! An order of the lines of the books.
 
-use crate::causes::Precedence;
+use crate::causes::{Precedence, causes_of};
+use crate::told::BookLines;
 use gathered::{Gathered, NOWHERE, at, filled, put};
 use std::alloc::{AllocError, Global};
 
@@ -36,23 +37,6 @@ fn link_all(lines: &mut Vec<Links>, causes: &[Precedence]) {
     }
 }
 
-/// Counts that one line less stands above this one, and tells whether none is left.
-fn count_down(lines: &mut Vec<Links>, line: usize) -> bool {
-    let old = at(lines.as_slice(), line, NO_LINKS);
-    let left = old.left.saturating_sub(1);
-    put(lines, line, Links { left, ..old });
-    left == 0
-}
-
-/// Adds the lines that stand below no other.
-fn add_free(order: &mut Gathered<usize>, lines: &[Links]) {
-    for (line, links) in lines.iter().enumerate() {
-        if links.left == 0 {
-            order.add(line);
-        }
-    }
-}
-
 /// Adds the lines that a line frees, which is taken.
 fn free(order: &mut Gathered<usize>, lines: &mut Vec<Links>, causes: &[Precedence], line: usize) {
     let first = at(lines.as_slice(), line, NO_LINKS).first;
@@ -61,15 +45,23 @@ fn free(order: &mut Gathered<usize>, lines: &mut Vec<Links>, causes: &[Precedenc
         if cause.above != line {
             break;
         }
-        if count_down(lines, cause.below) {
+        let below = at(lines.as_slice(), cause.below, NO_LINKS);
+        let left = below.left.saturating_sub(1);
+        put(lines, cause.below, Links { left, ..below });
+        if left == 0 {
             order.add(cause.below);
         }
     }
 }
 
-/// Adds the lines that are free, and takes each when it is the first of those that wait for their turn.
+/// Adds the lines that are free, and takes each when it is the first of those that wait for their turn; lets all go, if some are never
+/// free.
 fn take_all(order: &mut Gathered<usize>, lines: &mut Vec<Links>, causes: &[Precedence]) {
-    add_free(order, lines.as_slice());
+    for (line, links) in lines.as_slice().iter().enumerate() {
+        if links.left == 0 {
+            order.add(line);
+        }
+    }
     for taken in 0..lines.len() {
         let line = at(order.as_slice(), taken, NOWHERE);
         if line == NOWHERE {
@@ -77,19 +69,32 @@ fn take_all(order: &mut Gathered<usize>, lines: &mut Vec<Links>, causes: &[Prece
         }
         free(order, lines, causes, line);
     }
+    if order.len() != lines.len() {
+        order.clear();
+    }
 }
 
-/// The lines from the top down: a line that is free is taken when it is the first of those that wait for their turn, and what it
-/// frees comes behind them. Lines that are never free are missing. The causes are sorted by the lines above.
-pub(crate) fn order_of(
+/// The lines of the books from the top down, in an order that their causes allow; none, if there is no such order of all of them. A line
+/// that is free is taken when it is the first of those that wait for their turn, and what it frees comes behind them.
+pub(crate) fn caused_order<'a>(
+    alloc: Global,
+    told: &BookLines<'a>,
+) -> Result<Vec<usize>, AllocError> {
+    let mut causes = causes_of(alloc, told);
+    order_of(alloc, told.notes.len(), &mut causes)
+}
+
+/// So many lines in the order of these causes, which are sorted by the lines above.
+fn order_of(
     alloc: Global,
     lines: usize,
-    causes: &mut Vec<Precedence>,
+    causes: &mut Gathered<Precedence>,
 ) -> Result<Vec<usize>, AllocError> {
-    causes.sort_by_key(|cause| cause.above)?;
+    let sorted = causes.as_mut().sort_by_key(|cause| cause.above);
     let mut links = filled(alloc, NO_LINKS, lines)?;
     link_all(&mut links, causes.as_slice());
     let mut order = Gathered::new(alloc);
     take_all(&mut order, &mut links, causes.as_slice());
+    order.full = order.full | causes.full | sorted.is_err();
     order.whole()
 }

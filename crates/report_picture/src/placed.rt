@@ -6,10 +6,9 @@ ghost use Rattle.report_reader.specs.Reading.{told, told_lines};
 ghost use Rattle.report_picture.specs.Order.{StandFrom};
 ghost use Rattle.report_picture.specs.Pictures.{EndsAbove, StandInColumns, StandInOrder, column_of, is_drawn, is_left_out, is_target, is_within, lines_in};
 
-use crate::arranged::Books;
 use crate::columns::Wanted;
 use crate::picture::Drawn;
-use crate::targets::target_at;
+use crate::sheet::{NO_SEAT, Seat};
 use co_base::Memory;
 use gathered::at;
 use picture_parts::{column_of, is_among, is_bookkeeping, row_behind};
@@ -75,7 +74,7 @@ fn row_for(drawn: &[Drawn], as_told: bool, column: usize, row: u32) -> Result<u3
 }
 
 /// The column of a line, if it is drawn.
-fn column_at(wanted: Wanted, tags: &[u32], line: Line) -> Option<usize>
+pub(crate) fn column_at(wanted: Wanted, tags: &[u32], line: Line) -> Option<usize>
     ensures is { is_some result ≡ is_drawn wanted tags.now (told line.entry) }
     ensures column { IfSome result (λ column. column_of tags.now line.entry.said ≡ Some column) }
 {
@@ -85,73 +84,59 @@ fn column_at(wanted: Wanted, tags: &[u32], line: Line) -> Option<usize>
     column_of(line.said, tags)
 }
 
-/// The line with this number, drawn in this column and this row.
-fn drawn_at<'a>(
-    books: Books<'_, 'a>,
-    number: usize,
-    line: Line<'a>,
-    column: usize,
-    row: u32,
-) -> Drawn<'a>
-    ensures line { result.line ≡ line.entry }
-    ensures column { result.column ≡ column }
-    ensures row { result.row ≡ row }
-    ensures target { is_target books.entry.tags.now result.target ≡ true }
-{
-    Drawn {
-        column,
-        row,
-        target: among(books.tags, target_at(books.told, number)),
-        line,
-        source: books.names.source_at(number),
-    }
-}
-
-/// Adds the line with this number, if it is drawn.
+/// Adds a line, which has this seat, if it is drawn.
 fn push_drawn<'a>(
     drawn: &mut Vec<Drawn<'a>>,
-    books: Books<'_, 'a>,
-    rows: &[u32],
+    wanted: Wanted,
+    tags: &[u32],
+    seat: Seat<'a>,
     as_told: bool,
-    number: usize,
     line: Line<'a>,
 ) -> Result<(), Memory>
     requires order { StandInOrder drawn.old.items }
-    requires columns { StandInColumns books.tags.now drawn.old.items }
+    requires columns { StandInColumns tags.now drawn.old.items }
     requires rows { as_told ≡ true → StandFrom 0 drawn.old.items }
     ensures once { OnOk result (lines_in drawn.new.items
-        ≡ lines_in drawn.old.items ++ filter (is_drawn books.entry.wanted books.entry.tags.now) (told line.entry ∷ [])) }
-    ensures columns { OnOk result (StandInColumns books.entry.tags.now drawn.new.items) }
+        ≡ lines_in drawn.old.items ++ filter (is_drawn wanted tags.now) (told line.entry ∷ [])) }
+    ensures columns { OnOk result (StandInColumns tags.now drawn.new.items) }
     ensures order { OnOk result (StandInOrder drawn.new.items) }
     ensures rows { OnOk result (as_told ≡ true → StandFrom 0 drawn.new.items) }
 {
-    let Some(column) = column_at(books.wanted, books.tags, line) else {
+    let Some(column) = column_at(wanted, tags, line) else {
         return Ok(());
     };
-    let row = row_for(drawn.as_slice(), as_told, column, at(rows, number, 0))?;
-    drawn.push(drawn_at(books, number, line, column, row))?;
+    let row = row_for(drawn.as_slice(), as_told, column, seat.row)?;
+    drawn.push(Drawn {
+        column,
+        row,
+        target: among(tags, seat.target),
+        line,
+        source: seat.title.source,
+    })?;
     Ok(())
 }
 
 /// Puts the lines of the books of the coroutines that have a column in place of what was there: as told, one below another; else each in
-/// the row that is given for it, or, where that would not stand below the line before it in its book, in the next row.
+/// the row of its seat, or, where that would not stand below the line before it in its book, in the next row.
 pub(crate) fn draw_all<'a>(
     drawn: &mut Vec<Drawn<'a>>,
-    books: Books<'_, 'a>,
-    rows: &[u32],
+    wanted: Wanted,
+    tags: &[u32],
+    lines: &[Line<'a>],
+    seats: &[Seat<'a>],
     as_told: bool,
 ) -> Result<(), Memory>
-    ensures once { OnOk result (lines_in drawn.new.items
-        ≡ filter (is_drawn books.entry.wanted books.entry.tags.now) (told_lines books.entry.lines.now)) }
-    ensures columns { OnOk result (StandInColumns books.entry.tags.now drawn.new.items) }
+    ensures once { OnOk result (lines_in drawn.new.items ≡ filter (is_drawn wanted tags.now) (told_lines lines.now)) }
+    ensures columns { OnOk result (StandInColumns tags.now drawn.new.items) }
     ensures order { OnOk result (StandInOrder drawn.new.items) }
     ensures rows { OnOk result (as_told ≡ true → StandFrom 0 drawn.new.items) }
 {
     drawn.clear();
-    let mut rest = books.lines;
+    let mut rest = lines;
     let mut number = 0usize;
     while let [line, more @ ..] = rest {
-        push_drawn(drawn, books, rows, as_told, number, *line)?;
+        let seat = at(seats, number, NO_SEAT);
+        push_drawn(drawn, wanted, tags, seat, as_told, *line)?;
         number = number.saturating_add(1);
         rest = more;
     }

@@ -2,11 +2,12 @@
 
 use crate::arranged::Books;
 use crate::layout::{HALF, row_y};
-use crate::marks::untitled;
 use crate::picture::{Column, Title};
+use crate::placed::column_at;
+use crate::targets::target_at;
 use gathered::{Gathered, NOWHERE, at};
 use picture_parts::column_of;
-use report_reader::Said;
+use report_reader::{Line, Said};
 use std::alloc::Global;
 
 /// A line of the books where it is drawn.
@@ -16,9 +17,25 @@ pub(crate) struct Seat<'a> {
     pub(crate) row: u32,
     /// The number of its column; that of nowhere, if it is not drawn.
     pub(crate) column: usize,
+    /// How many lines before it are drawn.
+    pub(crate) place: usize,
+    /// The other coroutine that it concerns.
+    pub(crate) target: Option<u32>,
     /// What a reader is shown of it.
     pub(crate) title: Title<'a>,
 }
+
+/// That of no line.
+pub(crate) const NO_SEAT: Seat<'static> = Seat {
+    row: u32::MAX,
+    column: NOWHERE,
+    place: 0,
+    target: None,
+    title: Title {
+        line: b"",
+        source: b"",
+    },
+};
 
 /// The lines of the books where they are drawn, each by its number, the columns, and what of them is in the picture.
 #[derive(Clone, Copy)]
@@ -41,22 +58,18 @@ pub(crate) const NO_COLUMN: Column = Column {
     text: 0,
 };
 
-/// The number of a coroutine's column among those of these; that of nowhere, if it has none.
-fn column_in(tags: &[u32], tag: u32) -> usize {
-    column_of(Said::Note(tag), tags).unwrap_or(NOWHERE)
-}
-
-/// Where a line of the books is drawn, by its number and its row.
-fn seat_of<'a>(books: &Books<'_, 'a>, number: usize, row: u32) -> Seat<'a> {
+/// Where the line of the books with this number is drawn, before it has a row, behind so many others.
+fn seat_of<'a>(books: &Books<'_, 'a>, number: usize, place: usize) -> Seat<'a> {
     let note = books.told.note(number);
-    let column = if books.is_drawn(&note) {
-        column_in(books.tags, note.tag)
-    } else {
-        NOWHERE
+    let line = Line {
+        said: Said::Note(note.tag),
+        text: note.text,
     };
     Seat {
-        row,
-        column,
+        row: 0,
+        column: column_at(books.wanted, books.tags, line).unwrap_or(NOWHERE),
+        place,
+        target: target_at(books.told, number),
         title: Title {
             line: note.text,
             source: books.names.source_at(number),
@@ -64,23 +77,35 @@ fn seat_of<'a>(books: &Books<'_, 'a>, number: usize, row: u32) -> Seat<'a> {
     }
 }
 
-/// Where the lines of the books are drawn, which stand in these rows.
-pub(crate) fn seats_of<'a>(
-    alloc: Global,
-    books: &Books<'_, 'a>,
-    rows: &[u32],
-) -> Gathered<Seat<'a>> {
+/// Where the lines of the books are drawn, before they have rows.
+pub(crate) fn seats_of<'a>(alloc: Global, books: &Books<'_, 'a>) -> Gathered<Seat<'a>> {
     let mut seats = Gathered::new(alloc);
-    for (number, row) in rows.iter().enumerate() {
-        seats.add(seat_of(books, number, *row));
+    let mut place = 0usize;
+    for number in 0..books.told.notes.len() {
+        let seat = seat_of(books, number, place);
+        seats.add(seat);
+        place = place.saturating_add(usize::from(seat.column != NOWHERE));
     }
     seats
+}
+
+/// Gives each line its row, in the order of these numbers and else in that of the report, and answers the row behind the last.
+pub(crate) fn give_rows<'a>(seats: &mut Vec<Seat<'a>>, order: &[usize]) -> u32 {
+    let mut row = 0u32;
+    for place in 0..seats.len() {
+        let number = at(order, place, place);
+        if number < seats.len() {
+            seats[number].row = row;
+            row = row.saturating_add(u32::from(seats[number].column != NOWHERE));
+        }
+    }
+    row
 }
 
 impl<'s, 'a> Sheet<'s, 'a> {
     /// The number of a coroutine's column; that of nowhere, if it has none.
     pub(crate) fn column(&self, tag: u32) -> usize {
-        column_in(self.tags, tag)
+        column_of(Said::Note(tag), self.tags).unwrap_or(NOWHERE)
     }
 
     /// Where the bar of a column begins from the left.
@@ -92,8 +117,7 @@ impl<'s, 'a> Sheet<'s, 'a> {
     pub(crate) fn seat(&self, number: usize) -> Seat<'a> {
         let none = Seat {
             row: self.until,
-            column: NOWHERE,
-            title: untitled(),
+            ..NO_SEAT
         };
         at(self.seats, number, none)
     }

@@ -1,21 +1,21 @@
 //! What the lines of the books say, and which of them says what of a place, a wait, a channel and a row.
 
 use crate::keyed::Numbers;
-use crate::notes::{Fact, Key, NO_NOTE, Note, Of, Way, first_on, note_of};
+use crate::notes::{FIRSTS, Fact, NO_NOTE, NO_SAYING, NOTHING, Note, Of, SAYINGS, Way, note_of};
 use gathered::{Gathered, NOWHERE, at};
 use report_reader::{Line, Said, words_of};
-use std::alloc::{AllocError, Global};
+use std::alloc::Global;
 
 /// The first of two lines that is there.
 pub(crate) fn first_of(one: usize, other: usize) -> usize {
     if one == NOWHERE { other } else { one }
 }
 
-/// The lines of the books, each by its number; there is none with that of nowhere.
+/// The lines of the books, each by its number; there is none with that of nowhere. Whether memory held all is asked of the notes.
 #[derive(Drop)]
 pub(crate) struct BookLines<'a> {
     pub(crate) notes: Gathered<Note<'a>>,
-    lines: Numbers<Key<'a>>,
+    lines: Numbers<'a>,
 }
 
 impl<'a> BookLines<'a> {
@@ -28,30 +28,9 @@ impl<'a> BookLines<'a> {
         self.lines.at(note.key(fact, of))
     }
 
-    /// The line that says this of a place of a channel.
-    pub(crate) fn at_place(&self, fact: Fact, channel: &'a [u8], place: &'a [u8]) -> usize {
-        self.lines.at((fact as usize, 0, channel, place))
-    }
-
-    pub(crate) fn of_row(&self, fact: Fact, row: u32) -> usize {
-        self.lines.at((fact as usize, row, b"", b""))
-    }
-
-    /// The line in which the receiver goes on that waited at a place.
-    pub(crate) fn settled_at(&self, channel: &'a [u8], place: &'a [u8]) -> usize {
-        let waiting = self.note(self.at_place(Fact::Awaits, channel, place));
-        self.said(Fact::Settles, Of::Wait, &waiting)
-    }
-
-    /// Whether a line begins a wait, and not the one that the last line began which did.
-    pub(crate) fn begins_wait(&self, note: &Note<'a>, last: usize) -> bool {
-        let last = self.note(last);
-        note.verb.waits && !(note.tag == last.tag && note.wait == last.wait)
-    }
-
     /// The line to which a way leads first from a line.
     fn first(&self, way: Way, number: usize) -> usize {
-        let (fact, of, or, or_else) = first_on(way);
+        let (fact, of, or, or_else) = at(&FIRSTS, way as usize, NOTHING);
         let note = self.note(number);
         let found = self.said(fact, of, &note);
         if found != NOWHERE || matches!(or, Fact::Nothing) {
@@ -85,31 +64,26 @@ fn add_notes<'a>(alloc: Global, notes: &mut Gathered<Note<'a>>, lines: &[Line<'a
 }
 
 /// Tells what a line says of its coroutine, and what else it says.
-fn see<'a>(lines: &mut Numbers<Key<'a>>, number: usize, note: &Note<'a>) {
-    lines.put_first(note.key(Fact::First, Of::Own), number);
+fn see<'a>(lines: &mut Numbers<'a>, number: usize, note: &Note<'a>) {
+    let first = note.key(Fact::First, Of::Own);
+    let known = lines.at(first);
+    lines.put(first, first_of(known, number));
     lines.put(note.key(Fact::Last, Of::Own), number);
-    lines.put(note.said(), number);
+    let (fact, of, _, _) = at(&SAYINGS, note.verb, NO_SAYING);
+    lines.put(note.key(fact, of), number);
     if note.cancelled {
         lines.put(note.key(Fact::Cancels, Of::Subject), number);
     }
 }
 
-/// Tells of lines what they say.
-fn see_all<'a>(lines: &mut Numbers<Key<'a>>, notes: &[Note<'a>]) {
-    for (number, note) in notes.iter().enumerate() {
-        see(lines, number, note);
-    }
-}
-
 /// What the lines of the books say.
-pub(crate) fn told_in<'a>(alloc: Global, lines: &[Line<'a>]) -> Result<BookLines<'a>, AllocError> {
+pub(crate) fn told_in<'a>(alloc: Global, lines: &[Line<'a>]) -> BookLines<'a> {
     let mut notes = Gathered::new(alloc);
     add_notes(alloc, &mut notes, lines);
     let mut told = Numbers::new(alloc);
-    see_all(&mut told, notes.as_slice());
-    if notes.full | told.full {
-        Err(AllocError)
-    } else {
-        Ok(BookLines { notes, lines: told })
+    for (number, note) in notes.as_slice().iter().enumerate() {
+        see(&mut told, number, note);
     }
+    notes.full = notes.full | told.full;
+    BookLines { notes, lines: told }
 }

@@ -2,22 +2,21 @@
 //!
 //! Times are places in an order that both histories allow, ten for each line: they say what came before what, and not how long it took.
 
-ghost use Rattle.std.specs.Prelude.{◌≡◌, ◌++◌, ◌∷◌, [], ◌&&◌, not, false, IfOk, filter, map};
+ghost use Rattle.std.specs.Prelude.{◌≡◌, ◌++◌, ◌∷◌, [], ◌&&◌, not, false, IfOk, OnOk, filter, map};
 ghost use Rattle.report_reader.specs.Reading.{told, told_lines};
 ghost use Rattle.report_picture.specs.Traces.{Tells, is_asked_for, is_traced};
 
-use crate::arranged::caused_order;
 use crate::arrows::{Arrow, channels_of};
 use crate::columns::Wanted;
 use crate::jobs::{Jobs, Stretch, Wait, jobs_of, waits_in};
 use crate::looks::Look;
 use crate::notes::Note;
+use crate::order::caused_order;
 use crate::told::{BookLines, told_in};
-use gathered::{Gathered, at, put};
+use gathered::{Gathered, at};
 use picture_parts::{Names, is_bookkeeping};
 use report_reader::{Line, Said};
 use std::alloc::{AllocError, Global};
-use std::mem::replace;
 
 /// The track of a coroutine, or of a Job.
 #[derive(Clone, Copy)]
@@ -114,33 +113,20 @@ struct When<'a> {
     source: &'a [u8],
 }
 
-/// The track of a coroutine.
-fn own_track(tag: u32) -> u64 {
-    u64::from(tag) * 2
-}
-
 /// A line of the books, if they are in the order of the report.
 fn when_of<'a>(wanted: Wanted, names: Names<'a>, number: usize, note: &Note<'a>) -> When<'a> {
+    let line = Line {
+        said: Said::Note(note.tag),
+        text: note.text,
+    };
     When {
         at: (number as u64).saturating_mul(10),
         joined: false,
-        shown: is_traced(wanted, note.line()),
-        track: own_track(note.tag),
+        shown: is_traced(wanted, line),
+        track: u64::from(note.tag) * 2,
         text: note.text,
         channel: note.channel,
         source: names.source_at(number),
-    }
-}
-
-/// Adds the lines of the books, in the order of the report.
-fn add_whens<'a>(
-    whens: &mut Gathered<When<'a>>,
-    wanted: Wanted,
-    names: Names<'a>,
-    notes: &[Note<'a>],
-) {
-    for (number, note) in notes.iter().enumerate() {
-        whens.add(when_of(wanted, names, number, note));
     }
 }
 
@@ -158,6 +144,19 @@ fn when_at<'a>(whens: &[When<'a>], number: usize) -> When<'a> {
     at(whens, number, end)
 }
 
+/// Tells of the lines when they were written that are in this order, and which these arrows join.
+fn give_times<'a>(whens: &mut Vec<When<'a>>, order: &[usize], arrows: &[Arrow]) {
+    for (place, number) in order.iter().enumerate() {
+        if *number < whens.len() {
+            whens[*number].at = (place as u64).saturating_mul(10);
+        }
+    }
+    for arrow in arrows {
+        join(whens, arrow.from);
+        join(whens, arrow.to);
+    }
+}
+
 /// Tells that an arrow joins a line to another.
 fn join<'a>(whens: &mut Vec<When<'a>>, number: usize) {
     if number < whens.len() {
@@ -165,22 +164,22 @@ fn join<'a>(whens: &mut Vec<When<'a>>, number: usize) {
     }
 }
 
-/// Tells of a line at which place of an order it was written.
-fn give_time<'a>(whens: &mut Vec<When<'a>>, number: usize, place: usize) {
-    if number < whens.len() {
-        whens[number].at = (place as u64).saturating_mul(10);
+/// The lines of the books, as they follow one another in this order, or in that of the report, where it is empty; and which of them these
+/// arrows join.
+fn whens_of<'a>(
+    alloc: Global,
+    wanted: Wanted,
+    names: Names<'a>,
+    notes: &[Note<'a>],
+    order: &[usize],
+    arrows: &[Arrow],
+) -> Gathered<When<'a>> {
+    let mut whens = Gathered::new(alloc);
+    for (number, note) in notes.iter().enumerate() {
+        whens.add(when_of(wanted, names, number, note));
     }
-}
-
-/// Tells of the lines when they were written that are in this order, and which these arrows join.
-fn give_times<'a>(whens: &mut Vec<When<'a>>, order: &[usize], arrows: &[Arrow]) {
-    for (place, number) in order.iter().enumerate() {
-        give_time(whens, *number, place);
-    }
-    for arrow in arrows {
-        join(whens, arrow.from);
-        join(whens, arrow.to);
-    }
+    give_times(whens.as_mut(), order, arrows);
+    whens
 }
 
 // ---- the lines
@@ -270,7 +269,7 @@ fn lasting(from: u64, until: u64) -> Happening {
 fn state_event<'a>(whens: &[When<'a>], one: &Stretch) -> Event<'a> {
     let from = when_at(whens, one.since);
     let lasts = lasting(from.at, when_at(whens, one.until).at);
-    let track = own_track(one.row).saturating_add(1);
+    let track = u64::from(one.row) * 2 + 1;
     event_at(&from, track, (one.state.word(), b"state"), lasts)
 }
 
@@ -289,29 +288,31 @@ fn names_of<'a>(look: Look, channel: &'a [u8]) -> (&'a [u8], &'a [u8]) {
     }
 }
 
-/// Whether both lines of an arrow are asked for.
-fn is_shown<'a>(whens: &[When<'a>], arrow: &Arrow) -> bool {
-    when_at(whens, arrow.from).shown & when_at(whens, arrow.to).shown
-}
-
-/// The beginning of an arrow.
-fn leave_event<'a>(whens: &[When<'a>], flow: u64, arrow: &Arrow) -> Event<'a> {
+/// The beginning of an arrow, or its end.
+fn flow_event<'a>(whens: &[When<'a>], flow: u64, arrow: &Arrow, leaves: bool) -> Event<'a> {
     let from = when_at(whens, arrow.from);
-    let at = from.at.saturating_add(1);
-    let names = names_of(arrow.look, from.channel);
-    event_at(&from, from.track, names, Happening::Leaves { at, flow })
+    let here = if leaves {
+        from
+    } else {
+        when_at(whens, arrow.to)
+    };
+    let at = here.at.saturating_add(1);
+    let happening = if leaves {
+        Happening::Leaves { at, flow }
+    } else {
+        Happening::Arrives { at, flow }
+    };
+    event_at(
+        &here,
+        here.track,
+        names_of(arrow.look, from.channel),
+        happening,
+    )
 }
 
-/// The end of an arrow.
-fn arrive_event<'a>(whens: &[When<'a>], flow: u64, arrow: &Arrow) -> Event<'a> {
-    let to = when_at(whens, arrow.to);
-    let at = to.at.saturating_add(1);
-    let names = names_of(arrow.look, when_at(whens, arrow.from).channel);
-    event_at(&to, to.track, names, Happening::Arrives { at, flow })
-}
-
-/// Adds the tracks of the coroutines that are asked for, and of the Jobs of them and in them.
-fn add_tracks(tracks: &mut Gathered<Track>, wanted: Wanted, begun: &[Stretch]) {
+/// The tracks of the coroutines that are asked for, and of the Jobs of them and in them.
+fn tracks_in(alloc: Global, wanted: Wanted, begun: &[Stretch]) -> Result<Vec<Track>, AllocError> {
+    let mut tracks = Gathered::new(alloc);
     for one in begun {
         if is_asked_for(wanted, Said::Note(one.tag)) {
             tracks.add(Track {
@@ -320,6 +321,7 @@ fn add_tracks(tracks: &mut Gathered<Track>, wanted: Wanted, begun: &[Stretch]) {
             });
         }
     }
+    tracks.whole()
 }
 
 /// Adds the stretches of the Jobs that have tracks.
@@ -350,122 +352,128 @@ fn add_waits<'a>(events: &mut Gathered<Event<'a>>, whens: &[When<'a>], waits: &[
 /// Adds the arrows of which both lines are asked for.
 fn add_flows<'a>(events: &mut Gathered<Event<'a>>, whens: &[When<'a>], arrows: &[Arrow]) {
     for (flow, arrow) in arrows.iter().enumerate() {
-        if is_shown(whens, arrow) {
-            events.add(leave_event(whens, flow as u64, arrow));
-            events.add(arrive_event(whens, flow as u64, arrow));
+        if when_at(whens, arrow.from).shown & when_at(whens, arrow.to).shown {
+            events.add(flow_event(whens, flow as u64, arrow, true));
+            events.add(flow_event(whens, flow as u64, arrow, false));
         }
     }
 }
 
-/// What a trace is made of besides its moments.
-#[derive(Drop)]
-struct Building<'a> {
-    whens: Gathered<When<'a>>,
-    tracks: Gathered<Track>,
-    /// Whether memory held all of the trace is asked of this list.
-    events: Gathered<Event<'a>>,
-    in_order: bool,
+/// What happens on the tracks: the states of the Jobs, the waits, and the arrows.
+fn events_in<'a>(
+    alloc: Global,
+    wanted: Wanted,
+    whens: &[When<'a>],
+    stretches: &[Stretch],
+    waits: &[Wait<'a>],
+    arrows: &[Arrow],
+) -> Result<Vec<Event<'a>>, AllocError> {
+    let mut events = Gathered::new(alloc);
+    add_states(&mut events, wanted, whens, stretches);
+    add_waits(&mut events, whens, waits);
+    add_flows(&mut events, whens, arrows);
+    events.whole()
 }
 
-impl<'a> Building<'a> {
-    /// Adds the tracks, and on them the states of the Jobs, the waits, and the arrows.
-    fn add_events(&mut self, wanted: Wanted, jobs: &Jobs, waits: &[Wait<'a>], arrows: &[Arrow]) {
-        let whens = self.whens.as_slice();
-        add_tracks(&mut self.tracks, wanted, jobs.begun.as_slice());
-        add_states(&mut self.events, wanted, whens, jobs.stretches.as_slice());
-        add_waits(&mut self.events, whens, waits);
-        add_flows(&mut self.events, whens, arrows);
+/// Gives a trace its tracks and what happens on them, if memory held all that it is told by.
+fn give_events<'a>(
+    trace: &mut Trace<'a>,
+    alloc: Global,
+    wanted: Wanted,
+    whens: &[When<'a>],
+    jobs: &Jobs,
+    waits: &Gathered<Wait<'a>>,
+    arrows: &[Arrow],
+) -> Result<(), AllocError>
+    ensures { OnOk result (trace.new.names.now ≡ trace.old.names.now) }
+{
+    if waits.full | jobs.stretches.full {
+        return Err(AllocError);
     }
+    let stretches = jobs.stretches.as_slice();
+    trace.tracks = tracks_in(alloc, wanted, jobs.begun.as_slice())?;
+    trace.events = events_in(alloc, wanted, whens, stretches, waits.as_slice(), arrows)?;
+    Ok(())
+}
 
-    /// Adds the lines of the books, and what they say, in this order, or in that of the report, where it is empty.
-    fn add_all(
-        &mut self,
-        alloc: Global,
-        wanted: Wanted,
-        names: Names<'a>,
-        told: &BookLines<'a>,
-        order: &[usize],
-        arrows: &[Arrow],
-    ) {
-        add_whens(&mut self.whens, wanted, names, told.notes.as_slice());
-        give_times(self.whens.as_mut(), order, arrows);
-        let mut jobs = jobs_of(alloc, told, order);
-        let is_whole = jobs.end();
-        let waits = waits_in(alloc, told);
-        self.add_events(wanted, &jobs, waits.as_slice(), arrows);
-        let is_missing = self.whens.full | self.tracks.full | waits.full | !is_whole;
-        self.events.full = self.events.full | is_missing;
-    }
+/// Gives a trace what the lines of the books say, in this order, or in that of the report, where it is empty.
+fn give_told<'a>(
+    trace: &mut Trace<'a>,
+    alloc: Global,
+    wanted: Wanted,
+    told: &BookLines<'a>,
+    order: &[usize],
+    whens: &[When<'a>],
+    arrows: &[Arrow],
+) -> Result<(), AllocError>
+    ensures { OnOk result (trace.new.names.now ≡ trace.old.names.now) }
+{
+    let mut jobs = jobs_of(alloc, told, order);
+    jobs.end();
+    let waits = waits_in(alloc, told);
+    give_events(trace, alloc, wanted, whens, &jobs, &waits, arrows)
+}
 
-    /// Adds them in an order that their causes allow, if there is one.
-    fn add_ordered(
-        &mut self,
-        alloc: Global,
-        wanted: Wanted,
-        names: Names<'a>,
-        told: &BookLines<'a>,
-        arrows: &[Arrow],
-    ) {
-        match caused_order(alloc, told) {
-            Ok(mut order) => {
-                self.in_order = order.len() == told.notes.len();
-                if !self.in_order {
-                    order.clear();
-                }
-                self.add_all(alloc, wanted, names, told, order.as_slice(), arrows);
-            }
-            Err(_) => self.events.full = true,
-        }
+/// Gives a trace the lines of a report, and what they tell, by what each line of the books is in this order; tells whether it has all of
+/// them.
+fn give_lines<'a>(
+    trace: &mut Trace<'a>,
+    alloc: Global,
+    wanted: Wanted,
+    lines: &[Line<'a>],
+    told: &BookLines<'a>,
+    order: &[usize],
+    whens: &Gathered<When<'a>>,
+    arrows: &[Arrow],
+) -> Result<bool, AllocError>
+    ensures told { OnOk result (Tells wanted (told_lines lines.now) trace.new) }
+    ensures names { OnOk result (trace.new.names.now ≡ trace.old.names.now) }
+{
+    if whens.full | told.notes.full {
+        return Err(AllocError);
     }
+    let whens = whens.as_slice();
+    give_told(trace, alloc, wanted, told, order, whens, arrows)?;
+    trace.moments = moments_in(alloc, wanted, lines, whens)?;
+    Ok(order.len() == whens.len())
+}
 
-    /// Adds them, and their arrows.
-    fn add_told(&mut self, alloc: Global, wanted: Wanted, names: Names<'a>, told: &BookLines<'a>) {
-        match channels_of(alloc, told) {
-            Ok(channels) => {
-                self.add_ordered(alloc, wanted, names, told, channels.arrows.as_slice())
-            }
-            Err(_) => self.events.full = true,
-        }
-    }
+/// Gives a trace the lines of a report, and what they tell, in an order that their causes allow, and tells whether there is one.
+fn give_ordered<'a>(
+    trace: &mut Trace<'a>,
+    alloc: Global,
+    wanted: Wanted,
+    names: Names<'a>,
+    lines: &[Line<'a>],
+    told: &BookLines<'a>,
+    arrows: &[Arrow],
+) -> Result<bool, AllocError>
+    ensures told { OnOk result (Tells wanted (told_lines lines.now) trace.new) }
+    ensures names { OnOk result (trace.new.names.now ≡ trace.old.names.now) }
+{
+    let order = caused_order(alloc, told)?;
+    let notes = told.notes.as_slice();
+    let whens = whens_of(alloc, wanted, names, notes, order.as_slice(), arrows);
+    let order = order.as_slice();
+    give_lines(trace, alloc, wanted, lines, told, order, &whens, arrows)
+}
 
-    /// Adds the lines of the books, and what they say.
-    fn add_books(&mut self, alloc: Global, wanted: Wanted, names: Names<'a>, lines: &[Line<'a>]) {
-        match told_in(alloc, lines) {
-            Ok(told) => self.add_told(alloc, wanted, names, &told),
-            Err(_) => self.events.full = true,
-        }
-    }
-
-    /// The trace with these moments, if memory held all of it.
-    fn whole(
-        self,
-        alloc: Global,
-        names: Names<'a>,
-        moments: Vec<Moment<'a>>,
-    ) -> Result<Tracing<'a>, AllocError>
-        ensures names { IfOk result (λ tracing. tracing.trace.names.now ≡ names.entry.blocks.now) }
-        ensures moments { IfOk result (λ tracing. tracing.trace.moments.items ≡ moments.entry.items) }
-    {
-        let Building {
-            mut tracks,
-            events,
-            in_order,
-            ..
-        } = self;
-        let tracks = replace(tracks.as_mut(), Vec::new(alloc));
-        match events.whole() {
-            Ok(events) => Ok(Tracing {
-                trace: Trace {
-                    names: names.blocks,
-                    tracks,
-                    moments,
-                    events,
-                },
-                in_order,
-            }),
-            Err(fault) => Err(fault),
-        }
-    }
+/// The same, of lines of which nothing is known yet.
+fn give_report<'a>(
+    trace: &mut Trace<'a>,
+    alloc: Global,
+    wanted: Wanted,
+    names: Names<'a>,
+    lines: &[Line<'a>],
+) -> Result<bool, AllocError>
+    ensures told { OnOk result (Tells wanted (told_lines lines.now) trace.new) }
+    ensures names { OnOk result (trace.new.names.now ≡ trace.old.names.now) }
+{
+    let mut told = told_in(alloc, lines);
+    let channels = channels_of(alloc, &told);
+    told.notes.full = told.notes.full | channels.arrows.full;
+    let arrows = channels.arrows.as_slice();
+    give_ordered(trace, alloc, wanted, names, lines, &told, arrows)
 }
 
 /// The trace of a report: each line that is asked for, and what its coroutines and Jobs went through. The names are those of a script
@@ -479,15 +487,14 @@ pub fn trace_of<'a>(
     ensures told { IfOk result (λ tracing. Tells wanted (told_lines lines.now) tracing.trace) }
     ensures names { IfOk result (λ tracing. tracing.trace.names.now ≡ names.entry.blocks.now) }
 {
-    let mut building = Building {
-        whens: Gathered::new(alloc),
-        tracks: Gathered::new(alloc),
-        events: Gathered::new(alloc),
-        in_order: false,
+    let mut trace = Trace {
+        names: names.blocks,
+        tracks: Vec::new(alloc),
+        moments: Vec::new(alloc),
+        events: Vec::new(alloc),
     };
-    building.add_books(alloc, wanted, names, lines);
-    match moments_in(alloc, wanted, lines, building.whens.as_slice()) {
-        Ok(moments) => building.whole(alloc, names, moments),
+    match give_report(&mut trace, alloc, wanted, names, lines) {
+        Ok(in_order) => Ok(Tracing { trace, in_order }),
         Err(fault) => Err(fault),
     }
 }

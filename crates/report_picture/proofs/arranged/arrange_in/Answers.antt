@@ -17,5 +17,5 @@ returns-clause-told c = λ told. (c.in_ok-arranged.ensures.told told, c.in_ok-dr
 
 pub returns-clause-allowed : goal.returns-clause-allowed
 returns-clause-allowed c =
-    λ is. subst (StandBelow c.args.books.wanted c.args.books.tags.now (told_lines c.args.books.lines.now)) c.as_slice-2.ensures.value
+    λ is. subst (StandBelow c.args.books.wanted c.args.books.tags.now (told_lines c.args.books.lines.now)) c.as_slice-drawn.ensures.value
     (c.in_ok-arranged.ensures.allowed is)

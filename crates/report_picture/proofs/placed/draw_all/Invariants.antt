@@ -6,9 +6,9 @@ use Rattle.report_picture.proofs.placed.draw_all.Given as goal
 
 abbrev pub invariant-loop-rest : goal.invariant-loop-rest
 invariant-loop-rest l = record {
-  once : lines_in l.drawn.items ++ filter (is_drawn l.books.wanted l.books.tags.now) (told_lines l.rest)
-      ≡ filter (is_drawn l.books.wanted l.books.tags.now) (told_lines l.books.lines.now);
-  columns : StandInColumns l.books.tags.now l.drawn.items;
+  once : lines_in l.drawn.items ++ filter (is_drawn l.wanted l.tags) (told_lines l.rest)
+      ≡ filter (is_drawn l.wanted l.tags) (told_lines l.lines);
+  columns : StandInColumns l.tags l.drawn.items;
   order : StandInOrder l.drawn.items;
   rows : l.as_told ≡ true → StandFrom 0 l.drawn.items;
 }
