@@ -1,20 +1,26 @@
 -- What each line keeps of the script so far.
-use Rattle.std.proofs.Common.{◌≡◌, ℕ, zero, suc, ◌+◌, ◌*◌, ◌<◌, ◌≤◌, List, [], ◌∷◌, ◌++◌, length, length-append, true, nat_lt, nat_le, refl, ap, sym, ◌∙◌, subst, arith, get_or, map, Option, Some, None}
-use Rattle.std.specs.Prelude.{option_map}
+use Rattle.std.proofs.Common.{◌≡◌, ℕ, zero, suc, ◌+◌, ◌*◌, ◌<◌, ◌≤◌, List, [], ◌∷◌, ◌++◌, length, length-append, true, nat_lt, nat_le, refl, ap, sym, ◌∙◌, subst, arith, get_or, map, Option, Some, None, Result, Ok}
+use Rattle.std.specs.Prelude.{option_map, string_bytes}
 use Rattle.std.specs.List.{list_all}
 use Rattle.std.proofs.lemmas.List.{length-map, append-nil}
 use Rattle.std.proofs.Math.Nat.{mul-le-mul_left}
+use Rattle.script_grammar.specs.declared.fault.FaultKind.{FaultKind}
 use Rattle.script_grammar.specs.declared.instructions.Instruction.{Instruction}
 use Rattle.script_grammar.specs.declared.instructions.Instruction.TheVariants.{Launch, Repeat, Each, Scope, End}
 use Rattle.script_grammar.specs.Programs.{Block, block_names}
 use Rattle.script_grammar.specs.Lines.{Names, line_words}
 use Rattle.script_grammar.specs.Blocks.{Open, with_line, product, own_weight, nest_after, after_end, but_first, fits, job_given, listed}
 use Rattle.script_grammar.specs.Reads.{Read, Form, version_is, channel_is, coroutine_is, spawn_is, line_is, end_is, start, after, names_for, closed_block, closed_weight}
-use Rattle.script_grammar.specs.Grammar.{is_name, names_job, Says, Within}
+use Rattle.script_grammar.specs.Forms.{form_at, limited, step}
+use Rattle.script_grammar.specs.Faults.{◌>>=◌}
+use Rattle.script_grammar.specs.Grammar.{is_name, names_job, Says, Within, IsWithin}
 use Rattle.script_grammar.proofs.Truths.{both, both_true, lt-true, lt-from_true, le-true, le-from_true}
 use Rattle.script_grammar.proofs.DistinctNames.{fresh_none}
+use Rattle.script_grammar.proofs.TextsRead.{limited_again}
 use Rattle.script_reader.specs.Holding.{IsKept, WeighsJobs, IsNewBlock, line_count, open_cost, cost}
-use Rattle.script_reader.specs.Entering.{CanEnter, IsNewName, IsNewJob}
+use Rattle.script_reader.specs.Entering.{CanEnter, IsNewName, IsNewJob, HasRoom}
+use Rattle.script_reader.specs.declared.reading.OpenBlock.{OpenBlock}
+use Rattle.script_reader.specs.Reading.{open_of, HasFewJobs}
 use Rattle.script_reader.specs.declared.script.Coroutine.{Coroutine}
 use Rattle.script_reader.specs.Programs.{block_of}
 use Rattle.script_reader.proofs.Lengths.{text_length}
@@ -168,6 +174,27 @@ CanEnter-from_Says s words (spawn_is i n) is says = tt
 CanEnter-from_Says s words (line_is x job) is says = subst (λ o. IsNewJob o job) (sym says.1)
     (new-job 0 (says.0).jobs (job_given x) job says.5)
 CanEnter-from_Says s words end_is is says = is.new
+
+-- ---- what a line needs
+
+-- the Jobs of the open block have a number each
+pub few_jobs : (o : Option OpenBlock) → WeighsJobs (option_map open_of o) → IsWithin (option_map open_of o) → HasFewJobs o
+few_jobs None weighs within = tt
+few_jobs (Some b) weighs within = omega (arith, weighs.0, within.2, length-map b.jobs.items.items string_bytes)
+
+-- and there is a number for the open block
+pub room_left : (cs : List Coroutine) (o : Option Open)
+    → 16 * length (map block_of cs) + line_count (map block_of cs) + open_cost o ≤ 1048577
+    → HasRoom (length cs) o
+room_left cs None short = tt
+room_left cs (Some b) short = omega (arith, short, length-map cs block_of)
+
+-- a line that is found and leads to no more than the limits allow
+pub step_ok : (s : Read) (words : List (List ℕ)) (w : List ℕ) (ws : List (List ℕ)) (f : Form) → words ≡ w ∷ ws
+    → form_at s s.current w ws ≡ Ok f → Within (after f s) → step s words ≡ Ok (after f s)
+unfolding step
+step_ok s words w ws f is found within =
+    ap (step s) is ∙ ap (λ (r : Result Form FaultKind). r >>= λ g. limited (after g s)) found ∙ limited_again (after f s) within
 
 -- ---- how many blocks
 

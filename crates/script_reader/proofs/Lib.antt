@@ -1,6 +1,7 @@
 mod Cuts
 mod Numbers
 mod NameTexts
+mod KindWords
 mod Starts
 mod Loads
 mod Lengths

@@ -4,14 +4,14 @@ use Rattle.std.specs.Prelude.{option_map}
 use Rattle.std.specs.List.{list_all}
 use Rattle.std.proofs.lemmas.List.{get_or_append_left}
 use Rattle.script_grammar.specs.declared.fault.FaultKind.{FaultKind}
-use Rattle.script_grammar.specs.declared.fault.FaultKind.TheVariants.{TooMany}
+use Rattle.script_grammar.specs.declared.fault.FaultKind.TheVariants.{TooDeep, TooMany}
 use Rattle.script_grammar.specs.declared.instructions.Instruction.{Instruction}
 use Rattle.script_grammar.specs.Programs.{places_in}
 use Rattle.script_grammar.specs.Blocks.{Open, with_line, nest_after, clauses_after, product, own_weight, is_main}
 use Rattle.script_grammar.specs.Reads.{Read, spawn_is, line_is, end_is, after, load, main_weight, closed_block, closed_weight, closed_main, open_main, spawned_weight}
 use Rattle.script_grammar.specs.Grammar.{Within, IsWithin, FewClauses}
 use Rattle.script_grammar.specs.Places.{at_most}
-use Rattle.script_grammar.specs.Forms.{limited, light, clause_count}
+use Rattle.script_grammar.specs.Forms.{limited, deep, light, clause_count}
 use Rattle.script_grammar.specs.Faults.{◌>>=◌}
 use Rattle.script_grammar.proofs.Truths.{both_true, lt-from_true}
 use Rattle.script_grammar.proofs.PlacesRead.{at_most_again}
@@ -21,8 +21,8 @@ use Rattle.std.proofs.lemmas.Bool.{lt-leb}
 
 -- ---- limits
 
-over : (limit n : ℕ) → limit < n → at_most TooMany limit n ≡ Err TooMany
-over limit n h = ap (λ b. if◌then◌else◌ {A = Result (Unit {0}) FaultKind} b (Ok tt) (Err TooMany)) (lt-leb n limit h)
+over : (kind : FaultKind) (limit n : ℕ) → limit < n → at_most kind limit n ≡ Err kind
+over kind limit n h = ap (λ b. if◌then◌else◌ {A = Result (Unit {0}) FaultKind} b (Ok tt) (Err kind)) (lt-leb n limit h)
 
 -- where the open block is within its limits, the limits of all are looked at
 within_block : (s : Read) → IsWithin s.current → limited s ≡
@@ -41,7 +41,7 @@ limited-places s h channels many =
     ∙ ap (λ (r : Result (Unit {0}) FaultKind). r >>= λ u. at_most TooMany 4194304 (places_in s.channels) >>=
     λ u. at_most TooMany 16000 (load s) >>= λ u. Ok s) (at_most_again TooMany 256 (length s.channels) channels)
     ∙ ap (λ (r : Result (Unit {0}) FaultKind). r >>= λ u. at_most TooMany 16000 (load s) >>= λ u. Ok s)
-    (over 4194304 (places_in s.channels) many)
+    (over TooMany 4194304 (places_in s.channels) many)
 
 -- too great a load
 pub limited-load : (s : Read) → IsWithin s.current → length s.channels ≤ 256 → places_in s.channels ≤ 4194304 → 16000 < load s
@@ -52,7 +52,7 @@ limited-load s h channels places many =
     λ u. at_most TooMany 16000 (load s) >>= λ u. Ok s) (at_most_again TooMany 256 (length s.channels) channels)
     ∙ ap (λ (r : Result (Unit {0}) FaultKind). r >>= λ u. at_most TooMany 16000 (load s) >>= λ u. Ok s)
     (at_most_again TooMany 4194304 (places_in s.channels) places)
-    ∙ ap (λ (r : Result (Unit {0}) FaultKind). r >>= λ u. Ok s) (over 16000 (load s) many)
+    ∙ ap (λ (r : Result (Unit {0}) FaultKind). r >>= λ u. Ok s) (over TooMany 16000 (load s) many)
 
 -- ---- the load
 
@@ -119,3 +119,43 @@ limited-line s b x job is h deep_ clauses weight many =
     let within : IsWithin (Some (with_line s.weights x job b)) = (deep_, few (clauses_after b.clauses x) clauses, weight) in
     limited-load t (subst (λ o. IsWithin (option_map (with_line s.weights x job) o)) (sym is) within) h.channels h.places
     (omega (arith, many, load-line s b x job is))
+
+-- and one with which too much is open, or the select has too many clauses, or the block too great a weight
+fault-deep : (s : Read) (kind : FaultKind) → deep s.current ≡ Err kind → limited s ≡ Err kind
+fault-deep s kind e =
+    ap (λ (r : Result (Unit {0}) FaultKind). r >>= λ u. light s.current >>= λ u. at_most TooMany 256 (length s.channels) >>=
+    λ u. at_most TooMany 4194304 (places_in s.channels) >>= λ u. at_most TooMany 16000 (load s) >>= λ u. Ok s) e
+
+fault-light : (s : Read) (kind : FaultKind) → deep s.current ≡ Ok tt → light s.current ≡ Err kind → limited s ≡ Err kind
+fault-light s kind d e =
+    ap (λ (r : Result (Unit {0}) FaultKind). r >>= λ u. light s.current >>= λ u. at_most TooMany 256 (length s.channels) >>=
+    λ u. at_most TooMany 4194304 (places_in s.channels) >>= λ u. at_most TooMany 16000 (load s) >>= λ u. Ok s) d
+    ∙ ap (λ (r : Result (Unit {0}) FaultKind). r >>= λ u. at_most TooMany 256 (length s.channels) >>=
+    λ u. at_most TooMany 4194304 (places_in s.channels) >>= λ u. at_most TooMany 16000 (load s) >>= λ u. Ok s) e
+
+pub limited-deep : (s : Read) (b : Open) (x : Instruction) (job : Option (List ℕ)) → s.current ≡ Some b
+    → 8 < length (nest_after b.clauses b.nest x) → limited (after (line_is x job) s) ≡ Err TooDeep
+limited-deep s b x job is h =
+    fault-deep (after (line_is x job) s) TooDeep
+    (ap (λ o. deep (option_map (with_line s.weights x job) o)) is ∙ over TooDeep 8 (length (nest_after b.clauses b.nest x)) h)
+
+pub limited-clauses : (s : Read) (b : Open) (x : Instruction) (job : Option (List ℕ)) → s.current ≡ Some b
+    → length (nest_after b.clauses b.nest x) ≤ 8 → 7 < clause_count (clauses_after b.clauses x)
+    → limited (after (line_is x job) s) ≡ Err TooMany
+limited-clauses s b x job is h many =
+    fault-light (after (line_is x job) s) TooMany
+    (ap (λ o. deep (option_map (with_line s.weights x job) o)) is ∙ at_most_again TooDeep 8 (length (nest_after b.clauses b.nest x)) h)
+    (ap (λ o. light (option_map (with_line s.weights x job) o)) is
+    ∙ ap (λ (r : Result (Unit {0}) FaultKind). r >>= λ u. at_most TooMany 16000 (with_line s.weights x job b).weight)
+    (over TooMany 7 (clause_count (clauses_after b.clauses x)) many))
+
+pub limited-weight : (s : Read) (b : Open) (x : Instruction) (job : Option (List ℕ)) → s.current ≡ Some b
+    → length (nest_after b.clauses b.nest x) ≤ 8 → clause_count (clauses_after b.clauses x) ≤ 7
+    → 16000 < b.weight + product b.nest * own_weight s.weights x → limited (after (line_is x job) s) ≡ Err TooMany
+limited-weight s b x job is h few_ many =
+    fault-light (after (line_is x job) s) TooMany
+    (ap (λ o. deep (option_map (with_line s.weights x job) o)) is ∙ at_most_again TooDeep 8 (length (nest_after b.clauses b.nest x)) h)
+    (ap (λ o. light (option_map (with_line s.weights x job) o)) is
+    ∙ ap (λ (r : Result (Unit {0}) FaultKind). r >>= λ u. at_most TooMany 16000 (with_line s.weights x job b).weight)
+    (at_most_again TooMany 7 (clause_count (clauses_after b.clauses x)) few_)
+    ∙ over TooMany 16000 (b.weight + product b.nest * own_weight s.weights x) many)

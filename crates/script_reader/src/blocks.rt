@@ -1,18 +1,21 @@
 //! The lines of a block: clauses, launches, and the form of each.
 
-ghost use Rattle.std.specs.Prelude.{◌≡◌, ◌≤◌, true, length, map, string_bytes, option_map};
+ghost use Rattle.std.specs.Prelude.{◌≡◌, ◌≤◌, ℕ, List, true, length, map, string_bytes, option_map};
+ghost use Rattle.std.specs.Str.{bytes_eq};
 ghost use Rattle.script_grammar.specs.Words.{texts};
 ghost use Rattle.script_grammar.specs.Programs.{channel_names, block_names};
-ghost use Rattle.script_grammar.specs.Blocks.{is_new, is_among};
-ghost use Rattle.script_grammar.specs.Places.{clause_at, awaitable_at, target_at};
+ghost use Rattle.script_grammar.specs.Blocks.{is_main, is_new, is_among};
+ghost use Rattle.script_grammar.specs.Places.{known_at, clause_at, target_at, launchable, place_from};
 ghost use Rattle.script_grammar.specs.Forms.{named_line, sending_line, await_line, launch_line, onsend_line, onreceive_line, clause_form, ending, line_form, verb_form, number_for};
 ghost use Rattle.script_reader.specs.Answers.{Gives};
 ghost use Rattle.script_reader.specs.Families.{is_of_a_name, is_of_an_operand, with_name, with_operand};
 ghost use Rattle.script_reader.specs.Reading.{view, open_of, said, name_in};
 
 use crate::form::Spoken;
-use crate::lines::{fail_line, named_line, plain_line, repeat_line, result_line, sending_line};
-use crate::place::{end_of, job_of, known_of, name_of, names_main, operand_of};
+use crate::lines::{
+    fail_line, plain_line, repeat_line, result_line, said_alone, with_name, with_operand,
+};
+use crate::place::{job_of, known_of, name_of, names_main, operand_of};
 use crate::reading::{OpenBlock, Reading};
 use script_grammar::{FaultKind, Instruction, Launching, Verb};
 
@@ -38,8 +41,18 @@ fn is_new(c: u16, clauses: &Option<Vec<u16>>) -> bool
     }
 }
 
-/// A channel that no clause of the open select names.
+/// A channel of the script.
 #[tactic(auto, using(crate::proofs::NameTexts::names_of_channels))]
+fn channel_of<'a, 'b>(
+    reading: &Reading,
+    words: &'b [&'a [u8]],
+) -> Result<(u16, &'b [&'a [u8]]), FaultKind>
+    ensures { Gives (λ x. (x.0, texts x.1.now)) result (known_at (channel_names (view reading.now).channels) (texts words.now)) }
+{
+    known_of(&reading.channels, words)
+}
+
+/// A channel that no clause of the open select names.
 fn clause_of<'a, 'b>(
     reading: &Reading,
     block: &OpenBlock,
@@ -48,15 +61,13 @@ fn clause_of<'a, 'b>(
     ensures { Gives (λ x. (x.0, texts x.1.now)) result
         (clause_at (channel_names (view reading.now).channels) (open_of block.now).clauses (texts words.now)) }
 {
-    let (c, rest) = known_of(&reading.channels, words)?;
-    if is_new(c, &block.clauses) {
-        Ok((c, rest))
-    } else {
-        Err(FaultKind::Duplicate)
+    match channel_of(reading, words) {
+        Ok((c, rest)) if is_new(c, &block.clauses) => Ok((c, rest)),
+        Ok(_) => Err(FaultKind::Duplicate),
+        Err(kind) => Err(kind),
     }
 }
 
-#[tactic(auto, using(crate::proofs::NameTexts::names_of_channels))]
 fn onsend<'a>(
     reading: &Reading,
     block: &OpenBlock,
@@ -64,13 +75,15 @@ fn onsend<'a>(
 ) -> Result<Spoken<'a>, FaultKind>
     ensures { Gives said result (onsend_line (view reading.now) (open_of block.now) (texts words.now)) }
 {
-    let (c, rest) = clause_of(reading, block, words)?;
-    let (value, rest) = operand_of(rest)?;
-    end_of(rest)?;
-    Ok(Spoken::Line(Instruction::OnSend { c, value }, None))
+    match clause_of(reading, block, words) {
+        Ok((c, rest)) => match operand_of(rest) {
+            Ok((value, rest)) => plain_line(Instruction::OnSend { c, value }, rest),
+            Err(kind) => Err(kind),
+        },
+        Err(kind) => Err(kind),
+    }
 }
 
-#[tactic(auto, using(crate::proofs::NameTexts::names_of_channels))]
 fn onreceive<'a>(
     reading: &Reading,
     block: &OpenBlock,
@@ -78,9 +91,10 @@ fn onreceive<'a>(
 ) -> Result<Spoken<'a>, FaultKind>
     ensures { Gives said result (onreceive_line (view reading.now) (open_of block.now) (texts words.now)) }
 {
-    let (c, rest) = clause_of(reading, block, words)?;
-    end_of(rest)?;
-    Ok(Spoken::Line(Instruction::OnReceive { c }, None))
+    match clause_of(reading, block, words) {
+        Ok((c, rest)) => plain_line(Instruction::OnReceive { c }, rest),
+        Err(kind) => Err(kind),
+    }
 }
 
 /// A line in a select.
@@ -106,38 +120,40 @@ fn ending<'a>(nest: &[u32], words: &[&'a [u8]]) -> Result<Spoken<'a>, FaultKind>
     ensures { Gives said result (ending nest.now (texts words.now)) }
 {
     match nest {
-        [] => {
-            end_of(words)?;
-            Ok(Spoken::End)
-        }
+        [] => said_alone(Spoken::End, words),
         _ => plain_line(Instruction::End, words),
     }
 }
 
-/// A Job that may be awaited.
-fn awaitable_of<'a, 'b>(
-    block: &OpenBlock,
-    words: &'b [&'a [u8]],
-) -> Result<(u16, &'b [&'a [u8]]), FaultKind>
-    ensures { Gives (λ x. (x.0, texts x.1.now)) result
-        (awaitable_at (map string_bytes block.now.jobs.items.items) block.now.awaitable.items (texts words.now)) }
-{
-    let (job, rest) = known_of(&block.jobs, words)?;
-    match block.awaitable.get(job as usize) {
-        Some(true) => Ok((job, rest)),
-        _ => Err(FaultKind::Undeclared),
-    }
-}
-
+/// A line that awaits a Job, if it may be awaited.
 fn awaiting<'a>(block: &OpenBlock, words: &[&'a [u8]]) -> Result<Spoken<'a>, FaultKind>
     ensures { Gives said result (await_line (open_of block.now) (texts words.now)) }
 {
-    let (job, rest) = awaitable_of(block, words)?;
-    end_of(rest)?;
-    Ok(Spoken::Line(Instruction::Await { job }, None))
+    match known_of(&block.jobs, words) {
+        Ok((job, rest)) => match block.awaitable.get(job as usize) {
+            Some(true) => plain_line(Instruction::Await { job }, rest),
+            _ => Err(FaultKind::Undeclared),
+        },
+        Err(kind) => Err(kind),
+    }
 }
 
+/// The block of this name that is declared before the open one, and is not `main`.
 #[tactic(auto, using(crate::proofs::NameTexts::names_of_blocks))]
+fn target_named(reading: &Reading, block: &OpenBlock, name: &str) -> Result<u16, FaultKind>
+    ensures { (rest : List (List ℕ)) → Gives (λ i. (i, rest)) result
+        (launchable (bytes_eq (string_bytes block.now.name) name.now) (is_main name.now)
+        (place_from 0 name.now (block_names (view reading.now).blocks)) rest) }
+{
+    match reading.coroutines.place(name) {
+        Some(_) if names_main(name.as_bytes()) => Err(FaultKind::Recursive),
+        Some(i) => Ok(i),
+        None if block.name.as_str() == name => Err(FaultKind::Recursive),
+        None => Err(FaultKind::Undeclared),
+    }
+}
+
+/// The block that a line launches.
 fn target_of<'a, 'b>(
     reading: &Reading,
     block: &OpenBlock,
@@ -146,12 +162,12 @@ fn target_of<'a, 'b>(
     ensures { Gives (λ x. (x.0, texts x.1.now)) result
         (target_at (block_names (view reading.now).blocks) (string_bytes block.now.name) (texts words.now)) }
 {
-    let (name, rest) = name_of(words)?;
-    match reading.coroutines.place(name) {
-        None if block.name.as_str() == name => Err(FaultKind::Recursive),
-        None => Err(FaultKind::Undeclared),
-        Some(_) if names_main(name.as_bytes()) => Err(FaultKind::Recursive),
-        Some(i) => Ok((i, rest)),
+    match name_of(words) {
+        Ok((name, rest)) => match target_named(reading, block, name) {
+            Ok(i) => Ok((i, rest)),
+            Err(kind) => Err(kind),
+        },
+        Err(kind) => Err(kind),
     }
 }
 
@@ -165,7 +181,6 @@ fn number_for(block: &OpenBlock, job: Option<&str>) -> Option<u16>
     }
 }
 
-#[tactic(auto, using(crate::proofs::NameTexts::names_of_blocks))]
 fn launching<'a>(
     reading: &Reading,
     block: &OpenBlock,
@@ -175,21 +190,23 @@ fn launching<'a>(
     requires { length block.now.jobs.items.items ≤ 65535 }
     ensures { Gives said result (launch_line (view reading.now) (open_of block.now) how (texts words.now)) }
 {
-    let (target, rest) = target_of(reading, block, words)?;
-    let name = job_of(&block.jobs, rest)?;
-    let job = number_for(block, name);
-    Ok(Spoken::Line(
-        Instruction::Launch {
-            block: target,
-            how,
-            job,
+    match target_of(reading, block, words) {
+        Ok((target, rest)) => match job_of(&block.jobs, rest) {
+            Ok(name) => {
+                let launch = Instruction::Launch {
+                    block: target,
+                    how,
+                    job: number_for(block, name),
+                };
+                Ok(Spoken::Line(launch, name))
+            }
+            Err(kind) => Err(kind),
         },
-        name,
-    ))
+        Err(kind) => Err(kind),
+    }
 }
 
 /// A line of a channel.
-#[tactic(auto, using(crate::proofs::NameTexts::names_of_channels))]
 fn channel_line<'a>(
     reading: &Reading,
     verb: Verb,
@@ -198,12 +215,14 @@ fn channel_line<'a>(
     requires { is_of_a_name verb ≡ true }
     ensures { Gives said result (named_line (channel_names (view reading.now).channels) (with_name verb) (texts words.now)) }
 {
-    named_line(&reading.channels, verb, words)
+    match channel_of(reading, words) {
+        Ok((c, rest)) => plain_line(with_name(verb, c), rest),
+        Err(kind) => Err(kind),
+    }
 }
 
 /// A line of a channel and an operand.
-#[tactic(auto, using(crate::proofs::NameTexts::names_of_channels))]
-fn channel_send<'a>(
+fn sending_line<'a>(
     reading: &Reading,
     verb: Verb,
     words: &[&'a [u8]],
@@ -211,7 +230,13 @@ fn channel_send<'a>(
     requires { is_of_an_operand verb ≡ true }
     ensures { Gives said result (sending_line (channel_names (view reading.now).channels) (with_operand verb) (texts words.now)) }
 {
-    sending_line(&reading.channels, verb, words)
+    match channel_of(reading, words) {
+        Ok((c, rest)) => match operand_of(rest) {
+            Ok((value, rest)) => plain_line(with_operand(verb, c, value), rest),
+            Err(kind) => Err(kind),
+        },
+        Err(kind) => Err(kind),
+    }
 }
 
 /// A line of a Job.
@@ -219,7 +244,10 @@ fn job_line<'a>(block: &OpenBlock, verb: Verb, words: &[&'a [u8]]) -> Result<Spo
     requires { is_of_a_name verb ≡ true }
     ensures { Gives said result (named_line (open_of block.now).jobs (with_name verb) (texts words.now)) }
 {
-    named_line(&block.jobs, verb, words)
+    match known_of(&block.jobs, words) {
+        Ok((job, rest)) => plain_line(with_name(verb, job), rest),
+        Err(kind) => Err(kind),
+    }
 }
 
 /// A line in a block, outside a select.
@@ -233,8 +261,8 @@ pub(crate) fn block_line<'a>(
     ensures { Gives said result (line_form (view reading.now) (open_of block.now) verb (texts words.now)) }
 {
     match verb {
-        Verb::Send => channel_send(reading, verb, words),
-        Verb::TrySend => channel_send(reading, verb, words),
+        Verb::Send => sending_line(reading, verb, words),
+        Verb::TrySend => sending_line(reading, verb, words),
         Verb::Receive => channel_line(reading, verb, words),
         Verb::TryReceive => channel_line(reading, verb, words),
         Verb::Close => channel_line(reading, verb, words),

@@ -1,5 +1,6 @@
 //! What stands at the places of a line outside blocks.
 
+ghost use Rattle.std.specs.Prelude.{◌∷◌};
 ghost use Rattle.script_grammar.specs.Words.{texts};
 ghost use Rattle.script_grammar.specs.Places.{places_at, count_at, buffered_at, made, number_at, kind_at};
 ghost use Rattle.channel_model.specs.declared.acts.Kind.TheVariants.{Buffered, DropOldest, DropLatest};
@@ -27,10 +28,10 @@ pub(crate) fn count_of<'a, 'b>(words: &'b [&'a [u8]]) -> Result<(u16, &'b [&'a [
 {
     match words {
         [] => Ok((1, words)),
-        _ => {
-            let (count, rest) = number_of(1, MOST_JOBS, words)?;
-            Ok((count as u16, rest))
-        }
+        _ => match number_of(1, MOST_JOBS, words) {
+            Ok((count, rest)) => Ok((count as u16, rest)),
+            Err(kind) => Err(kind),
+        },
     }
 }
 
@@ -38,8 +39,10 @@ pub(crate) fn count_of<'a, 'b>(words: &'b [&'a [u8]]) -> Result<(u16, &'b [&'a [
 fn sized<'a, 'b>(words: &'b [&'a [u8]]) -> Result<(Kind, &'b [&'a [u8]]), FaultKind>
     ensures { Gives (λ x. (x.0, texts x.1.now)) result (made (λ k. Buffered k) (number_at 1 65535 (texts words.now))) }
 {
-    let (capacity, rest) = number_of(1, 65_535, words)?;
-    Ok((Kind::Buffered(capacity), rest))
+    match number_of(1, 65_535, words) {
+        Ok((capacity, rest)) => Ok((Kind::Buffered(capacity), rest)),
+        Err(kind) => Err(kind),
+    }
 }
 
 /// A buffered channel, whose capacity may be left out, and the words after it.
@@ -57,16 +60,46 @@ fn buffered_of<'a, 'b>(words: &'b [&'a [u8]]) -> Result<(Kind, &'b [&'a [u8]]), 
 fn dropping<'a, 'b>(words: &'b [&'a [u8]]) -> Result<(Kind, &'b [&'a [u8]]), FaultKind>
     ensures { Gives (λ x. (x.0, texts x.1.now)) result (made (λ k. DropOldest k) (number_at 1 65535 (texts words.now))) }
 {
-    let (capacity, rest) = number_of(1, 65_535, words)?;
-    Ok((Kind::DropOldest(capacity), rest))
+    match number_of(1, 65_535, words) {
+        Ok((capacity, rest)) => Ok((Kind::DropOldest(capacity), rest)),
+        Err(kind) => Err(kind),
+    }
 }
 
 /// A channel that spurns its latest element beyond a capacity that stands here.
 fn spurning<'a, 'b>(words: &'b [&'a [u8]]) -> Result<(Kind, &'b [&'a [u8]]), FaultKind>
     ensures { Gives (λ x. (x.0, texts x.1.now)) result (made (λ k. DropLatest k) (number_at 1 65535 (texts words.now))) }
 {
-    let (capacity, rest) = number_of(1, 65_535, words)?;
-    Ok((Kind::DropLatest(capacity), rest))
+    match number_of(1, 65_535, words) {
+        Ok((capacity, rest)) => Ok((Kind::DropLatest(capacity), rest)),
+        Err(kind) => Err(kind),
+    }
+}
+
+/// The kind of a channel of a script of this version that begins with this word, and the words after it.
+#[tactic(auto, unfolding(script_grammar::specs::Places::kind_at))]
+fn kind_after<'a, 'b>(
+    version: u8,
+    word: &[u8],
+    rest: &'b [&'a [u8]],
+) -> Result<(Kind, &'b [&'a [u8]]), FaultKind>
+    ensures { Gives (λ x. (x.0, texts x.1.now)) result (kind_at version (word.now ∷ texts rest.now)) }
+{
+    if word == b"rendezvous".as_slice() {
+        Ok((Kind::Rendezvous, rest))
+    } else if word == b"buffered".as_slice() {
+        buffered_of(rest)
+    } else if word == b"unlimited".as_slice() {
+        Ok((Kind::Unlimited, rest))
+    } else if word == b"conflated".as_slice() {
+        Ok((Kind::Conflated, rest))
+    } else if word == b"dropoldest".as_slice() {
+        dropping(rest)
+    } else if word == b"droplatest".as_slice() && version == 2 {
+        spurning(rest)
+    } else {
+        Err(FaultKind::UnknownWord)
+    }
 }
 
 /// The kind of a channel of a script of this version, and the words after it.
@@ -77,22 +110,8 @@ pub(crate) fn kind_of<'a, 'b>(
 ) -> Result<(Kind, &'b [&'a [u8]]), FaultKind>
     ensures { Gives (λ x. (x.0, texts x.1.now)) result (kind_at version (texts words.now)) }
 {
-    let [word, rest @ ..] = words else {
-        return Err(FaultKind::UnknownWord);
-    };
-    if *word == b"rendezvous".as_slice() {
-        Ok((Kind::Rendezvous, rest))
-    } else if *word == b"buffered".as_slice() {
-        buffered_of(rest)
-    } else if *word == b"unlimited".as_slice() {
-        Ok((Kind::Unlimited, rest))
-    } else if *word == b"conflated".as_slice() {
-        Ok((Kind::Conflated, rest))
-    } else if *word == b"dropoldest".as_slice() {
-        dropping(rest)
-    } else if *word == b"droplatest".as_slice() && version == 2 {
-        spurning(rest)
-    } else {
-        Err(FaultKind::UnknownWord)
+    match words {
+        [word, rest @ ..] => kind_after(version, *word, rest),
+        [] => Err(FaultKind::UnknownWord),
     }
 }

@@ -58,11 +58,13 @@ fn push_name(
     requires few { length names.old.items.items < 65536 }
     ensures { OnOk result (map string_bytes names.new.items.items ≡ map string_bytes names.old.items.items ++ listed (name_in name.entry)) }
 {
-    if let Some(name) = name {
-        let name = String::from_str(alloc, name)?;
-        names.push(alloc, name)?;
+    match name {
+        Some(name) => {
+            let name = String::from_str(alloc, name)?;
+            names.push(alloc, name)
+        }
+        None => Ok(()),
     }
-    Ok(())
 }
 
 fn push_awaitable(
@@ -154,8 +156,7 @@ fn enter_channel(
         ≡ map declared_of channels.old.items.items ++ record { name = name.now; kind = kind; places = places } ∷ []) }
 {
     let name = String::from_str(alloc, name)?;
-    channels.push(alloc, Channel { name, kind, places })?;
-    Ok(())
+    channels.push(alloc, Channel { name, kind, places })
 }
 
 /// Closes the block that is open.
@@ -165,26 +166,26 @@ fn enter_end(alloc: Global, reading: &mut Reading) -> Result<(), AllocError>
     requires few { HasRoom (length reading.old.coroutines.items.items) (view reading.old).current }
     ensures { OnOk result (view reading.new ≡ after end_is (view reading.old)) }
 {
-    if let Some(block) = reading.current.take() {
-        let OpenBlock {
-            name,
-            jobs,
-            awaitable: _,
-            code,
-            nest: _,
-            clauses: _,
-            weight,
-        } = block;
-        let Indexed {
-            items: jobs,
-            index: _,
-        } = jobs;
-        reading.weights.push(weight)?;
-        reading
-            .coroutines
-            .push(alloc, Coroutine { name, jobs, code })?;
-    }
-    Ok(())
+    let Some(block) = reading.current.take() else {
+        return Ok(());
+    };
+    let OpenBlock {
+        name,
+        jobs,
+        awaitable: _,
+        code,
+        nest: _,
+        clauses: _,
+        weight,
+    } = block;
+    let Indexed {
+        items: jobs,
+        index: _,
+    } = jobs;
+    reading.weights.push(weight)?;
+    reading
+        .coroutines
+        .push(alloc, Coroutine { name, jobs, code })
 }
 
 /// Adds a line. The weight is that of the block that is open after it.

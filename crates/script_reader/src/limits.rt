@@ -58,15 +58,22 @@ pub(crate) fn turns_within(nest: &[u32]) -> u32
     turns
 }
 
+/// The number of a block in a table, or 0 where it has none.
+pub(crate) fn number_at(table: &[u16], block: u16) -> u16
+    ensures { result ≡ slice_index_or table.now block 0 }
+{
+    match table.get(block as usize) {
+        Some(number) => *number,
+        None => 0,
+    }
+}
+
 /// What a line weighs that runs once, if the blocks before have these weights.
 fn own_weight(weights: &[u16], line: Instruction) -> u16
     ensures { result ≡ own_weight weights.now line }
 {
     match line {
-        Instruction::Launch { block, .. } => match weights.get(block as usize) {
-            Some(weight) => *weight,
-            None => 0,
-        },
+        Instruction::Launch { block, .. } => number_at(weights, block),
         Instruction::Scope { .. } => 1,
         _ => 0,
     }
@@ -187,10 +194,7 @@ fn block_totals(reading: &Reading, name: &str) -> Result<Totals, FaultKind>
 fn weight_of(reading: &Reading, block: u16) -> u16
     ensures { result ≡ slice_index_or (view reading.now).weights block 0 }
 {
-    match reading.weights.get(block as usize) {
-        Some(weight) => *weight,
-        None => 0,
-    }
+    number_at(&reading.weights, block)
 }
 
 /// The totals with so many instances of a block more.

@@ -1,11 +1,28 @@
 //! What a line of a block opens and closes.
 
 ghost use Rattle.std.specs.Prelude.{◌≡◌, ◌++◌, ◌∷◌, [], ℕ, List, OnOk, Option, is_some, option_map};
-ghost use Rattle.script_grammar.specs.Blocks.{nest_after, clauses_after};
+ghost use Rattle.script_grammar.specs.Blocks.{but_first, nest_after, clauses_after};
 
 use crate::limits::TOO_MANY_TURNS;
 use script_grammar::Instruction;
 use std::alloc::{AllocError, Global};
+
+/// Opens lines that run so often.
+pub(crate) fn open_turns(nest: &mut Vec<u32>, turns: u32) -> Result<(), AllocError>
+    ensures { OnOk result (nest.new.items ≡ turns ∷ nest.old.items) }
+{
+    nest.insert(0, turns)?;
+    Ok(())
+}
+
+/// Closes the innermost lines that are open.
+pub(crate) fn close_turns(nest: &mut Vec<u32>)
+    ensures { nest.new.items ≡ but_first nest.old.items }
+{
+    if !nest.is_empty() {
+        nest.remove(0);
+    }
+}
 
 /// The lines that are open after this one, the innermost first.
 pub(crate) fn enter_nest(
@@ -19,23 +36,14 @@ pub(crate) fn enter_nest(
 {
     match line {
         Instruction::End => {
-            if !selecting && !nest.is_empty() {
-                nest.remove(0);
+            if !selecting {
+                close_turns(nest);
             }
             Ok(())
         }
-        Instruction::Repeat { turns } => {
-            nest.insert(0, turns)?;
-            Ok(())
-        }
-        Instruction::Each { .. } => {
-            nest.insert(0, TOO_MANY_TURNS)?;
-            Ok(())
-        }
-        Instruction::Scope { .. } => {
-            nest.insert(0, 1)?;
-            Ok(())
-        }
+        Instruction::Repeat { turns } => open_turns(nest, turns),
+        Instruction::Each { .. } => open_turns(nest, TOO_MANY_TURNS),
+        Instruction::Scope { .. } => open_turns(nest, 1),
         _ => Ok(()),
     }
 }

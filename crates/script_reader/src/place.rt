@@ -1,27 +1,20 @@
 //! What stands at each place of a line, from left to right.
+//!
+//! A reader answers what it read, and the words after it. Who reads on does so in a `match` on the answer: behind a `?` the proof takes twice
+//! as long.
 
-ghost use Rattle.std.specs.Prelude.{◌≡◌, ◌≤◌, IfOk, map, true, string_bytes};
+ghost use Rattle.std.specs.Prelude.{◌≡◌, ◌≤◌, ◌∷◌, ℕ, List, IfOk, map, true, string_bytes};
 ghost use Rattle.std.specs.Str.{all_ascii_digits};
 ghost use Rattle.std.specs.List.{list_all};
 ghost use Rattle.script_grammar.specs.Words.{texts};
 ghost use Rattle.script_grammar.specs.Blocks.{is_main};
 ghost use Rattle.script_grammar.specs.Grammar.{is_name, is_name_byte};
-ghost use Rattle.script_grammar.specs.Places.{end_at, is_number, number_at, value_at, operand_at, name_at, new_at, known_at, other_than_main, job_named, job_at};
+ghost use Rattle.script_grammar.specs.Places.{is_number, number_at, value_at, operand_at, name_at, new_at, known_at, other_than_main, job_named, job_at};
 ghost use Rattle.script_reader.specs.Answers.{Gives};
 ghost use Rattle.script_reader.specs.Reading.{name_in};
 
 use crate::names::{Indexed, Named};
 use script_grammar::{FaultKind, Operand};
-
-pub(crate) fn end_of(words: &[&[u8]]) -> Result<(), FaultKind>
-    ensures { Gives (λ _. tt) result (end_at (texts words.now)) }
-{
-    if words.is_empty() {
-        Ok(())
-    } else {
-        Err(FaultKind::Extra)
-    }
-}
 
 fn all_digits(word: &[u8]) -> bool
     ensures { result ≡ all_ascii_digits word.now }
@@ -77,6 +70,22 @@ pub(crate) fn number_of<'a, 'b>(
     }
 }
 
+/// What this word says that is sent, or is the result.
+fn operand_in(word: &[u8]) -> Result<Operand, FaultKind>
+    ensures { (rest : List (List ℕ)) → Gives (λ x. (x, rest)) result (operand_at (word.now ∷ rest)) }
+{
+    if word == b"it".as_slice() {
+        Ok(Operand::It)
+    } else if word == b"sum".as_slice() {
+        Ok(Operand::Sum)
+    } else {
+        match value_of(word) {
+            Some(value) => Ok(Operand::Number(value)),
+            None => Err(FaultKind::BadNumber),
+        }
+    }
+}
+
 /// What is sent, or is the result, and the words after it.
 pub(crate) fn operand_of<'a, 'b>(
     words: &'b [&'a [u8]],
@@ -84,12 +93,11 @@ pub(crate) fn operand_of<'a, 'b>(
     ensures { Gives (λ x. (x.0, texts x.1.now)) result (operand_at (texts words.now)) }
 {
     match words {
-        [word, rest @ ..] if *word == b"it".as_slice() => Ok((Operand::It, rest)),
-        [word, rest @ ..] if *word == b"sum".as_slice() => Ok((Operand::Sum, rest)),
-        _ => {
-            let (value, rest) = number_of(0, u32::MAX, words)?;
-            Ok((Operand::Number(value), rest))
-        }
+        [word, rest @ ..] => match operand_in(*word) {
+            Ok(operand) => Ok((operand, rest)),
+            Err(kind) => Err(kind),
+        },
+        [] => Err(FaultKind::BadNumber),
     }
 }
 
@@ -147,10 +155,12 @@ pub(crate) fn new_of<'a, 'b, T: Named + Drop>(
 ) -> Result<(&'a str, &'b [&'a [u8]]), FaultKind>
     ensures { Gives (λ x. (x.0.now, texts x.1.now)) result (new_at (map T.name_of items.now.items.items) (texts words.now)) }
 {
-    let (word, rest) = name_of(words)?;
-    match items.place(word) {
-        None => Ok((word, rest)),
-        Some(_) => Err(FaultKind::Duplicate),
+    match name_of(words) {
+        Ok((word, rest)) => match items.place(word) {
+            None => Ok((word, rest)),
+            Some(_) => Err(FaultKind::Duplicate),
+        },
+        Err(kind) => Err(kind),
     }
 }
 
@@ -160,10 +170,12 @@ pub(crate) fn known_of<'a, 'b, T: Named + Drop>(
 ) -> Result<(u16, &'b [&'a [u8]]), FaultKind>
     ensures { Gives (λ x. (x.0, texts x.1.now)) result (known_at (map T.name_of items.now.items.items) (texts words.now)) }
 {
-    let (word, rest) = name_of(words)?;
-    match items.place(word) {
-        Some(i) => Ok((i, rest)),
-        None => Err(FaultKind::Undeclared),
+    match name_of(words) {
+        Ok((word, rest)) => match items.place(word) {
+            Some(i) => Ok((i, rest)),
+            None => Err(FaultKind::Undeclared),
+        },
+        Err(kind) => Err(kind),
     }
 }
 
@@ -183,12 +195,15 @@ pub(crate) fn not_main(words: &[&[u8]]) -> Result<(), FaultKind>
     }
 }
 
+/// The new name of a Job, alone.
 fn job_named<'a>(names: &Indexed<String>, words: &[&'a [u8]]) -> Result<Option<&'a str>, FaultKind>
     ensures { Gives name_in result (job_named (map string_bytes names.now.items.items) (texts words.now)) }
 {
-    let (name, rest) = new_of(names, words)?;
-    end_of(rest)?;
-    Ok(Some(name))
+    match new_of(names, words) {
+        Ok((name, rest)) if rest.is_empty() => Ok(Some(name)),
+        Ok(_) => Err(FaultKind::Extra),
+        Err(kind) => Err(kind),
+    }
 }
 
 /// The new name of a Job, if there is a word.

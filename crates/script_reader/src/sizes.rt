@@ -5,7 +5,8 @@ ghost use Rattle.script_grammar.specs.Blocks.{product, launch_of};
 ghost use Rattle.script_grammar.specs.Tags.{nest_with, counted, launches_from, sizes_in, size_in};
 ghost use Rattle.script_reader.specs.Programs.{block_of};
 
-use crate::limits::{TOO_MANY_TURNS, turns_within};
+use crate::limits::{TOO_MANY_TURNS, number_at, turns_within};
+use crate::nesting::{close_turns, open_turns};
 use crate::script::Coroutine;
 use script_grammar::Instruction;
 use std::alloc::{AllocError, Global};
@@ -25,10 +26,7 @@ fn size_launched(sizes: &[u16], line: Instruction) -> u16
     ensures { result ≡ counted (λ j. slice_index_or sizes.now j 0) (launch_of line) }
 {
     match launch_of(line) {
-        Some(block) => match sizes.get(block as usize) {
-            Some(size) => *size,
-            None => 0,
-        },
+        Some(block) => number_at(sizes, block),
         None => 0,
     }
 }
@@ -39,27 +37,13 @@ fn enter_runs(nest: &mut Vec<u32>, line: Instruction) -> Result<(), AllocError>
 {
     match line {
         Instruction::End => {
-            if !nest.is_empty() {
-                nest.remove(0);
-            }
+            close_turns(nest);
             Ok(())
         }
-        Instruction::Repeat { turns } => {
-            nest.insert(0, turns)?;
-            Ok(())
-        }
-        Instruction::Each { .. } => {
-            nest.insert(0, TOO_MANY_TURNS)?;
-            Ok(())
-        }
-        Instruction::Scope { .. } => {
-            nest.insert(0, 1)?;
-            Ok(())
-        }
-        Instruction::Select => {
-            nest.insert(0, 1)?;
-            Ok(())
-        }
+        Instruction::Repeat { turns } => open_turns(nest, turns),
+        Instruction::Each { .. } => open_turns(nest, TOO_MANY_TURNS),
+        Instruction::Scope { .. } => open_turns(nest, 1),
+        Instruction::Select => open_turns(nest, 1),
         _ => Ok(()),
     }
 }

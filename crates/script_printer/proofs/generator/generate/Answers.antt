@@ -1,4 +1,4 @@
-use Rattle.std.proofs.Common.{◌≡◌, ℕ, ◌≤◌, List, ap, ◌∙◌, Ok, Err}
+use Rattle.std.proofs.Common.{◌≡◌, ℕ, ◌≤◌, List, ap, sym, ◌∙◌, Ok, Err}
 use Rattle.script_grammar.specs.Texts.{reading_of}
 use Rattle.script_grammar.specs.Generated.{generated, generated_text}
 use Rattle.script_grammar.proofs.GeneratedScript.{Spells-generated_text}
@@ -15,6 +15,9 @@ pub returns-in-Ok-clause-generated : goal.returns-in-Ok-clause-generated
 returns-in-Ok-clause-generated c =
     same_ok (program_of c.in-Ok.script) (generated c.args.n) (reading_of c.deref.result.now) c.in-Ok.ensures.exact
     (read_as c.args.n c.deref.result.now c.requires.low c.requires.high (c.deref.ensures.value ∙ c.in_ok-text.ensures))
+
+pub returns-in-Ok-clause-read : goal.returns-in-Ok-clause-read
+returns-in-Ok-clause-read c = ap reading_of (sym (c.deref.ensures.value ∙ c.in_ok-text.ensures)) ∙ c.in-Ok.ensures.exact
 
 pub unreachable-requires : goal.unreachable-requires
 unreachable-requires c =
