@@ -3,17 +3,20 @@ use Rattle.std.specs.Prelude.{◌≡◌, ℕ, ◌+◌, ◌<◌, Bool, true, fals
 use Rattle.std.proofs.Common.{sym, ap, ◌∙◌, subst, arith}
 use Rattle.co_base.specs.declared.names.WaitId.{WaitId}
 use Rattle.channel_model.specs.declared.acts.Act.{Act}
-use Rattle.channel_model.specs.declared.acts.Act.TheVariants.{Put, Take, Offer, Await}
+use Rattle.channel_model.specs.declared.acts.Act.TheVariants.{Put, Take, Offer, Await, Withdraw, Settle}
 use Rattle.channel_model.specs.declared.acts.Entry.{Entry}
 use Rattle.channel_model.specs.declared.acts.Settled.{Settled}
+use Rattle.channel_model.specs.declared.acts.Why.{Why}
+use Rattle.channel_model.specs.declared.floor.Withdrawn.{Withdrawn}
+use Rattle.channel_model.specs.declared.floor.Withdrawn.TheVariants as withdrawn
 use Rattle.channel_model.specs.declared.standing.Resolution.{Resolution}
 use Rattle.channel_model.specs.declared.standing.Standing.{Standing}
-use Rattle.channel_model.specs.Answers.{IsReadyWait}
+use Rattle.channel_model.specs.Answers.{IsReadyWait, IsOwnWait, IsResolvedWait, WithdrawAnswer}
 use Rattle.channel_model.specs.Channels.{Shape, State, Wait}
 use Rattle.channel_model.specs.Effects.{after, is_open, put_channel, put_wait, put_stood, place_offer, place_receiver}
 use Rattle.channel_model.specs.Floors.{Floor, Made}
 use Rattle.channel_model.specs.Histories.{replay, Legal}
-use Rattle.channel_model.specs.Needs.{Needs, IsFirstOffer, JoinsWait, MaySettle}
+use Rattle.channel_model.specs.Needs.{Needs, IsFirstOffer, IsOpenOf, JoinsWait, MaySettle}
 use Rattle.channel_model.specs.Outcomes.{IsOutcome}
 use Rattle.channel_model.proofs.Histories.{Legal-last}
 use Rattle.one_thread_floor.specs.declared.list_channel.ListChannel.{ListChannel}
@@ -49,6 +52,10 @@ pub same_await : (who c p q k : ℕ) (w u : WaitId) (old new : Floor) → p ≡ 
 same_await who c p q k w u old new e f made =
     subst (λ y. Made who (Await c q y k) old new) f (subst (λ x. Made who (Await c x w k) old new) e made)
 
+pub same_settle : (who : ℕ) (w : WaitId) (o q : Settled) (old new : Floor) → o ≡ q → Made who (Settle w o) old new
+    → Made who (Settle w q) old new
+same_settle who w o q old new e made = subst (λ x. Made who (Settle w x) old new) e made
+
 pub same_first_offer : (p v q u : ℕ) (os : List Standing) → IsFirstOffer p v os → IsFirstOffer q u os → (p ≡ q) × (v ≡ u)
 same_first_offer p v q u [] h k = absurd h
 same_first_offer p v q u (o ∷ os) h k = (sym h.0 ∙ k.0, sym h.1 ∙ k.1)
@@ -65,6 +72,21 @@ some_outcome outcome (Some r) h = refl
 pub settle_ready : (who : ℕ) (outcome : Settled) (x : Option Wait) → MaySettle who outcome x → IsReadyWait who x
 settle_ready who outcome None h = absurd h
 settle_ready who outcome (Some x) h = (h.0, some_outcome outcome x.resolved h.2, h.1)
+
+-- a wait that is open is taken back
+pub own_open : (who : ℕ) (x : Option Wait) → IsOpenOf who x → IsOwnWait who x
+own_open who None h = absurd h
+own_open who (Some x) h = h.0
+
+pub withdrawn_now : (who : ℕ) (w : WaitId) (why : Why) (old new : Floor) (r : Withdrawn) → old.alone ≡ true
+    → IsOpenOf who ((replay old.seen).waits w) → WithdrawAnswer who w why old new r → Made who (Withdraw w why) old new
+withdrawn_now who w why old new (withdrawn.Done t) alone stands h = h.0
+withdrawn_now who w why old new withdrawn.Late alone stands h =
+    absurd (never _ stands (subst (λ es. IsResolvedWait ((replay es).waits w)) (h.0.alone alone) h.1))
+  where
+    never : (x : Option Wait) → IsOpenOf who x → IsResolvedWait x → ⊥
+    never None o r = o
+    never (Some x) o r = let k : false ≡ true = sym (ap is_some o.1) ∙ r in cc
 
 -- ---- one more clause of a wait that was resolved
 

@@ -5,7 +5,7 @@
 use crate::list_channel::{ListChannel, ListSlot, Progress};
 use crate::list_floor::ListFloor;
 use channel_model::{Party, Resolution, Standing, Why};
-use co_base::{Memory, WaitId};
+use co_base::{Memory, Value, WaitId};
 
 /// A channel with fewer places tells how many were given out. One with more is taken to have places left.
 const MANY_PLACES: u32 = 16384;
@@ -14,10 +14,11 @@ impl ListFloor {
     /// Adds the numbers of all channels.
     pub fn push_key(&self, out: &mut Vec<u64>) -> Result<(), Memory> {
         let channels = self.channels.as_slice();
+        let mut held = true;
         for channel in channels {
-            push_channel(out, channels, channel)?;
+            held = held & add_channel(out, channels, channel);
         }
-        Ok(())
+        if_held(held)
     }
 
     /// Whether a wait was neither resolved nor settled.
@@ -38,19 +39,27 @@ impl ListFloor {
 
     /// Adds the numbers of a wait: whether it was resolved, and how.
     pub fn push_wait_key(&self, out: &mut Vec<u64>, w: WaitId) -> Result<(), Memory> {
-        match progress_in(self.channels.as_slice(), w) {
-            Some(Progress::Resolved(how)) => push_resolution(out, how),
-            Some(Progress::Standing) => push_all(out, &[0]),
-            Some(Progress::Settled(_, _)) | None => push_all(out, &[1]),
-        }
+        let held = match progress_in(self.channels.as_slice(), w) {
+            Some(Progress::Resolved(how)) => add_resolution(out, how),
+            Some(Progress::Standing) => add_all(out, &[0]),
+            Some(Progress::Settled(_, _)) | None => add_all(out, &[1]),
+        };
+        if_held(held)
     }
 }
 
-fn push_all(out: &mut Vec<u64>, numbers: &[u64]) -> Result<(), Memory> {
+/// Adds these numbers, and says whether memory held them all.
+pub(crate) fn add_all(out: &mut Vec<u64>, numbers: &[u64]) -> bool {
+    let mut held = true;
     for number in numbers {
-        out.push(*number)?;
+        held = held & out.push(*number).is_ok();
     }
-    Ok(())
+    held
+}
+
+/// The answer where memory held all numbers, or did not.
+pub(crate) fn if_held(held: bool) -> Result<(), Memory> {
+    if held { Ok(()) } else { Err(Memory) }
 }
 
 fn clause_by(how: Resolution) -> Option<u8> {
@@ -63,66 +72,62 @@ fn clause_by(how: Resolution) -> Option<u8> {
     }
 }
 
-fn push_resolution(out: &mut Vec<u64>, how: Resolution) -> Result<(), Memory> {
+fn add_resolution(out: &mut Vec<u64>, how: Resolution) -> bool {
     match how {
-        Resolution::Handed(clause, value) => push_all(
+        Resolution::Handed(clause, value) => add_all(
             out,
             &[2, u64::from(clause), u64::from(value)],
         ),
-        Resolution::Taken(clause) => push_all(out, &[3, u64::from(clause)]),
-        Resolution::Admitted(clause) => push_all(out, &[4, u64::from(clause)]),
-        Resolution::Closed(clause, value) => push_all(
+        Resolution::Taken(clause) => add_all(out, &[3, u64::from(clause)]),
+        Resolution::Admitted(clause) => add_all(out, &[4, u64::from(clause)]),
+        Resolution::Closed(clause, value) => add_all(
             out,
             &[5, u64::from(clause), u64::from(value)],
         ),
-        Resolution::Withdrawn(Why::Cancelled) => push_all(out, &[6]),
-        Resolution::Withdrawn(Why::Revoked) => push_all(out, &[7]),
-        Resolution::Voided => push_all(out, &[8]),
+        Resolution::Withdrawn(Why::Cancelled) => add_all(out, &[6]),
+        Resolution::Withdrawn(Why::Revoked) => add_all(out, &[7]),
+        Resolution::Voided => add_all(out, &[8]),
     }
 }
 
-/// Adds the numbers of a channel.
-fn push_channel(
-    out: &mut Vec<u64>,
-    channels: &[ListChannel],
-    channel: &ListChannel,
-) -> Result<(), Memory> {
-    match channel.closed {
-        Some(value) => push_all(out, &[1, u64::from(value)])?,
-        None => push_all(out, &[0])?,
-    }
-    out.push(u64::from(channel.voided))?;
+/// Adds the numbers of a channel. No part asks whether memory held the part before.
+fn add_channel(out: &mut Vec<u64>, channels: &[ListChannel], channel: &ListChannel) -> bool {
+    let mut held = add_closed(out, channel.closed) & add_all(out, &[u64::from(channel.voided)]);
     if channel.places < MANY_PLACES {
-        out.push(channel.slots.len() as u64)?;
+        held = held & add_all(out, &[channel.slots.len() as u64]);
     }
-    out.push(channel.queue.len() as u64)?;
+    held = held & add_all(out, &[channel.queue.len() as u64]);
     for standing in channel.queue.iter() {
-        push_offer(out, channels, *standing)?;
+        held = held & add_offer(out, channels, *standing);
     }
-    out.push(channel.receivers.len() as u64)?;
+    held = held & add_all(out, &[channel.receivers.len() as u64]);
     for receiver in channel.receivers.iter() {
-        push_party(out, channels, receiver.party)?;
+        held = held & add_party(out, channels, receiver.party);
     }
-    Ok(())
+    held
+}
+
+/// Adds the numbers of the value with which a channel was closed, if it was.
+fn add_closed(out: &mut Vec<u64>, closed: Option<Value>) -> bool {
+    match closed {
+        Some(value) => add_all(out, &[1, u64::from(value)]),
+        None => add_all(out, &[0]),
+    }
 }
 
 /// Adds the numbers of an offer: its value, and who waits with it.
-fn push_offer(
-    out: &mut Vec<u64>,
-    channels: &[ListChannel],
-    standing: Standing,
-) -> Result<(), Memory> {
-    out.push(u64::from(standing.value))?;
+fn add_offer(out: &mut Vec<u64>, channels: &[ListChannel], standing: Standing) -> bool {
+    let held = add_all(out, &[u64::from(standing.value)]);
     match standing.holder {
-        Some(party) => push_party(out, channels, party),
-        None => push_all(out, &[0]),
+        Some(party) => held & add_party(out, channels, party),
+        None => held & add_all(out, &[0]),
     }
 }
 
 /// Adds the numbers of one side of a wait: whose it is, and the clause.
-fn push_party(out: &mut Vec<u64>, channels: &[ListChannel], party: Party) -> Result<(), Memory> {
+fn add_party(out: &mut Vec<u64>, channels: &[ListChannel], party: Party) -> bool {
     let owner = owner_in(channels, party.wait).saturating_add(1);
-    push_all(out, &[owner, u64::from(party.clause)])
+    add_all(out, &[owner, u64::from(party.clause)])
 }
 
 /// The slot of a wait, if it is there.

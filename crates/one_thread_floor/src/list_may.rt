@@ -402,30 +402,6 @@ pub(crate) fn to_settle(
 
 // ---- clauses
 
-/// Whether one of these clauses is at this channel.
-fn has_channel(clauses: &[ListClause], c: ChannelId) -> bool
-    ensures { result ≡ list_any (λ y. y.1 == c) (map clause_of clauses.now) }
-{
-    for one in clauses {
-        if one.channel == c {
-            return true;
-        }
-    }
-    false
-}
-
-/// Whether one of these clauses has this number.
-fn has_number(clauses: &[ListClause], clause: u8) -> bool
-    ensures { result ≡ list_any (λ y. y.0 == clause) (map clause_of clauses.now) }
-{
-    for one in clauses {
-        if one.number == clause {
-            return true;
-        }
-    }
-    false
-}
-
 /// Whether the first of these clauses is that of a select.
 fn is_of_select(clauses: &[ListClause]) -> bool
     ensures { result ≡ began_by_select (map clause_of clauses.now) }
@@ -442,7 +418,15 @@ fn has_room_for(clauses: &[ListClause], clause: u8, c: ChannelId) -> bool
         && (not (list_any (λ y. y.0 == clause) (map clause_of clauses.now))
         && (nat_le 1 clause && nat_le clause 7))) }
 {
-    !has_channel(clauses, c) && !has_number(clauses, clause) && 1 <= clause && clause <= 7
+    for one in clauses {
+        if one.channel == c {
+            return false;
+        }
+        if one.number == clause {
+            return false;
+        }
+    }
+    1 <= clause && clause <= 7
 }
 
 fn is_settled(progress: Progress) -> bool

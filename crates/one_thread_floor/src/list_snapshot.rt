@@ -1,10 +1,10 @@
 //! What stands at a channel and at its places, and whether a wait was resolved, without a call of any coroutine.
 
-ghost use Rattle.std.specs.Prelude.{◌≡◌, ◌<◌, length};
+ghost use Rattle.std.specs.Prelude.{◌≡◌};
 ghost use Rattle.channel_model.specs.Histories.{replay};
 ghost use Rattle.one_thread_floor.specs.ListFloors.{floor_of};
 ghost use Rattle.one_thread_floor.specs.ListSnapshots.{Shows, is_resolved, stands_at};
-ghost use Rattle.one_thread_floor.specs.ListStands.{AllInOrder, channel_in, wait_in};
+ghost use Rattle.one_thread_floor.specs.ListStands.{channel_in, wait_in};
 
 use crate::list_channel::ListChannel;
 use crate::list_floor::ListFloor;
@@ -29,21 +29,7 @@ pub struct Snapshot {
     pub closed: Option<Value>,
 }
 
-/// What stands at a channel that there is.
-fn snapshot_of(channels: &Vec<ListChannel>, c: ChannelId) -> Snapshot
-    requires { c < length channels.now.items }
-    ensures { Shows result (channel_in channels.now.items c) }
-{
-    Snapshot {
-        next: next_place(channels, c),
-        queued: queue_len(channels, c),
-        first_offer: offer_at(channels, c, 0),
-        first_receiver: first_receiver(channels, c),
-        closed: closed_with(channels, c),
-    }
-}
-
-/// The same; nothing stands at a channel that there is not.
+/// What stands at a channel; nothing stands at one that there is not.
 fn snapshot_in(channels: &Vec<ListChannel>, c: ChannelId) -> Snapshot
     ensures { Shows result (channel_in channels.now.items c) }
 {
@@ -56,18 +42,13 @@ fn snapshot_in(channels: &Vec<ListChannel>, c: ChannelId) -> Snapshot
             closed: None,
         };
     }
-    snapshot_of(channels, c)
-}
-
-/// Whether anything stands at this place of a channel; nothing stands at a channel that there is not.
-fn stands_at_in(channels: &Vec<ListChannel>, c: ChannelId, place: Place) -> bool
-    requires { AllInOrder channels.now.items }
-    ensures { result ≡ stands_at place (channel_in channels.now.items c) }
-{
-    if channels.len() <= c as usize {
-        return false;
+    Snapshot {
+        next: next_place(channels, c),
+        queued: queue_len(channels, c),
+        first_offer: offer_at(channels, c, 0),
+        first_receiver: first_receiver(channels, c),
+        closed: closed_with(channels, c),
     }
-    stands_at(&channels[c as usize], place)
 }
 
 /// Whether a wait began and was resolved.
@@ -90,7 +71,10 @@ impl ListFloor {
     pub fn stands_at(&self, c: ChannelId, place: Place) -> bool
         ensures { result ≡ stands_at place ((replay (floor_of self.now).seen).channels c) }
     {
-        stands_at_in(&self.channels, c, place)
+        if self.channels.len() <= c as usize {
+            return false;
+        }
+        stands_at(&self.channels[c as usize], place)
     }
 
     /// Whether the wait began and was resolved.

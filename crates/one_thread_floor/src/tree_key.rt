@@ -1,23 +1,22 @@
 //! What calls can tell of a tree of Jobs, as numbers: trees with equal numbers answer equal calls alike.
 
+use crate::list_key::{add_all, if_held};
 use crate::tree_floor::TreeFloor;
 use crate::tree_row::TreeRow;
-use co_base::Memory;
+use co_base::{Memory, Row};
 use job_model::{Cause, JobKind, JobState};
 
 impl TreeFloor {
     /// Adds the numbers of all rows. The order of children is left out.
     pub fn push_key(&self, out: &mut Vec<u64>) -> Result<(), Memory> {
+        let mut held = true;
         for row in self.rows.as_slice() {
-            match row {
-                Some(row) => push_row(out, row)?,
-                None => out.push(0)?,
-            }
+            held = held & add_row(out, *row);
         }
         for claim in self.claims.as_slice() {
-            out.push(u64::from(claim.is_some()))?;
+            held = held & add_all(out, &[u64::from(claim.is_some())]);
         }
-        Ok(())
+        if_held(held)
     }
 
     /// Whether a Job is Cancelling.
@@ -33,20 +32,37 @@ impl TreeFloor {
     }
 }
 
-/// Adds the numbers of a Job.
-fn push_row(out: &mut Vec<u64>, row: &TreeRow) -> Result<(), Memory> {
-    out.push(state_number(row.state))?;
-    out.push(kind_number(row.kind))?;
-    out.push(cause_number(row.cause))?;
-    out.push(u64::from(row.body_ended))?;
-    out.push(u64::from(row.value))?;
-    out.push(u64::from(row.living))?;
-    out.push(u64::from(row.tag))?;
-    match row.parent {
-        Some(parent) => out.push(u64::from(parent).saturating_add(1))?,
-        None => out.push(0)?,
+/// Adds the numbers of a row: those of its Job, or 0 if none is attached. Says whether memory held them.
+fn add_row(out: &mut Vec<u64>, row: Option<TreeRow>) -> bool {
+    match row {
+        Some(job) => add_job(out, job),
+        None => add_all(out, &[0]),
     }
-    Ok(())
+}
+
+/// Adds the numbers of a Job.
+fn add_job(out: &mut Vec<u64>, job: TreeRow) -> bool {
+    add_all(
+        out,
+        &[
+            state_number(job.state),
+            kind_number(job.kind),
+            cause_number(job.cause),
+            u64::from(job.body_ended),
+            u64::from(job.value),
+            u64::from(job.living),
+            u64::from(job.tag),
+            parent_number(job.parent),
+        ],
+    )
+}
+
+/// 0, or a row and 1.
+fn parent_number(parent: Option<Row>) -> u64 {
+    match parent {
+        Some(row) => u64::from(row).saturating_add(1),
+        None => 0,
+    }
 }
 
 /// 1 to 6.

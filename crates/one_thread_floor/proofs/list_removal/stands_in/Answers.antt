@@ -1,18 +1,10 @@
-use Rattle.std.proofs.Common.{rules, sym, arith}
-use Rattle.std.proofs.lemmas.List.Sorted.{answers_always}
-use Rattle.one_thread_floor.proofs.ByHalves.{found, not_found, one_stands, none_stands}
+use Rattle.std.proofs.Common.{sym, arith}
+use Rattle.one_thread_floor.proofs.ByHalves.{one_stands, none_stands}
 use Rattle.one_thread_floor.proofs.list_removal.stands_in.Goals as goal
 
-pub returns-in-Ok : goal.returns-in-Ok
-returns-in-Ok g c =
-    let xs = c.args.queue.now.items in
-    let by_place = c.in-Ok.ensures.position g.T.Queued.stands_at (answers_always _ _ _ (λ f a r h called. search rules)) in
-    sym (one_stands g.T.Queued.stands_at c.args.place c.in-Ok.field-0 xs (omega (arith, c.in-Ok.ensures.bound))
-    (found g.T.Queued.stands_at c.args.place c.in-Ok.field-0 xs by_place))
+pub returns-in-Some : goal.returns-in-Some
+returns-in-Some g c = sym (one_stands g.T.Queued.stands_at c.args.place c.in-Some.field-0 c.args.queue.now.items
+    (omega (arith, c.in-Some.ensures.within)) c.in-Some.ensures.at)
 
-pub returns-in-Err : goal.returns-in-Err
-returns-in-Err g c =
-    let xs = c.args.queue.now.items in
-    let by_place = c.in-Err.ensures.position g.T.Queued.stands_at (answers_always _ _ _ (λ f a r h called. search rules)) in
-    sym (none_stands g.T.Queued.stands_at c.args.place xs
-    (not_found g.T.Queued.stands_at c.args.place c.in-Err.field-0 xs c.requires by_place))
+pub returns-in-None : goal.returns-in-None
+returns-in-None g c = sym (none_stands g.T.Queued.stands_at c.args.place c.args.queue.now.items c.in-None.ensures.none)

@@ -1,9 +1,11 @@
-use Rattle.std.proofs.Common.{◌∙◌, arith}
+use Rattle.std.specs.Prelude.{◌≡◌, true, false, is_some}
+use Rattle.std.proofs.Common.{sym, ap, ◌∙◌, arith}
 use Rattle.channel_model.specs.Histories.{replay}
 use Rattle.channel_model.proofs.Alone.{recorded_legal, made_alone}
 use Rattle.one_thread_floor.specs.Entries.{channel_entries}
+use Rattle.one_thread_floor.specs.ListSteps.{state_in}
 use Rattle.one_thread_floor.proofs.ListEntries.{recorded_at}
-use Rattle.one_thread_floor.proofs.ListMay.{may_at, are_of, told_needs}
+use Rattle.one_thread_floor.proofs.ListMay.{may_at, are_of, needs_of, told_needs}
 use Rattle.channel_model.specs.declared.acts.Act.TheVariants.{WakeClosed}
 use Rattle.one_thread_floor.proofs.InOrder.{all_in_order}
 use Rattle.one_thread_floor.proofs.ListFirsts.{receiver_waits, wake_at}
@@ -50,3 +52,10 @@ invariant_of-self-2 c =
 pub returns-clause-made : goal.returns-clause-made
 returns-clause-made c = made_alone _ c.args.who _ (channel_entries c.args.self.now.entries) (channel_entries c.push.new.self) _ _
     c.push.ensures (omega arith)
+
+pub returns-in_default-closed_with-clause-answer : goal.returns-in_default-closed_with-clause-answer
+returns-in_default-closed_with-clause-answer c =
+    let may = needs_of _ (state_in (λ d p. 0) c.args.self.now.channels.items) c.args.who (WakeClosed c.args.c c.args.place)
+    (sym (c.in-Some.ensures.answer c.args.who)) in
+    let both : false ≡ true = ap is_some c.in_default-closed_with.ensures ∙ may.1 in
+    cc
