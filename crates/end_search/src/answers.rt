@@ -238,24 +238,34 @@ fn rest_of(
     found: &Ways,
     verdict: Verdict,
 ) -> Result<String, Memory> {
-    let mut out = String::new(alloc);
-    match verdict {
-        Verdict::Exhausted => out.push_str("exhausted")?,
-        Verdict::Found => out.push_str("found")?,
-        Verdict::Cut => out.push_str("not exhausted")?,
-    }
+    let word = match verdict {
+        Verdict::Exhausted => "exhausted",
+        Verdict::Found => "found",
+        Verdict::Cut => "not exhausted",
+    };
+    let mut notes = String::new(alloc);
+    push_notes(&mut notes, script, found.sampled, verdict)?;
+    let notes = notes.as_str();
     let states = found.states;
     let turns = found.turns;
-    write!(out, ": {states} states, {turns} turns; ")?;
-    if verdict == Verdict::Cut {
-        push_reason(&mut out, script)?;
+    Ok(format!(in alloc; "{word}: {states} states, {turns} turns; {notes}one worker, any order\n")?)
+}
+
+/// Adds why the search was cut, if that is known, and how many of the ends are not of states that were looked at.
+fn push_notes(
+    out: &mut String,
+    script: &Script,
+    sampled: usize,
+    verdict: Verdict,
+) -> Result<(), AllocError> {
+    if matches!(verdict, Verdict::Cut) {
+        push_reason(out, script)?;
     }
-    let sampled = found.sampled;
     if sampled > 0 {
-        write!(out, "{sampled} by random orders, not shortest; ")?;
+        write!(out, "{sampled} by random orders, not shortest; ")
+    } else {
+        Ok(())
     }
-    out.push_str("one worker, any order\n")?;
-    Ok(out)
 }
 
 /// Adds which coroutine repeats lines so often that its states are too many, if one does.

@@ -49,6 +49,25 @@ pub(crate) fn block_of<G: Gate>(
     if !does_suit(shown.wanted, run.done.end) {
         return Ok(None);
     }
+    block_of_run(alloc, shown, number, order, &run)
+}
+
+/// The same of a run that was made, and whose root has ended as it is looked for.
+fn block_of_run(
+    alloc: Global,
+    shown: Shown,
+    number: u64,
+    order: &[Tag],
+    run: &ListRun<Notes>,
+) -> Result<Option<Vec<u8>>, Memory>
+    requires rest { CameToRest notes_of (program_of shown.script.now) run.now }
+    requires made { WasMadeInOrder notes_of (program_of shown.script.now) order.now run.now }
+    requires suits { does_suit shown.wanted run.now.done.end ≡ true }
+    ensures block { IfOk result (λ found. IfSome found (λ block.
+        IsBlock (program_of shown.entry.script.now) shown.entry.wanted number block.items)) }
+    ensures some { IfOk result (λ found. shown.entry.wanted ≡ None → is_some found ≡ true) }
+{
+    let script = shown.script;
     let books = run.done.books.as_slice();
     let refused = refused_sends(alloc, script, books)?;
     let ends = ends_of(alloc, script, books)?;
@@ -56,7 +75,7 @@ pub(crate) fn block_of<G: Gate>(
         return Ok(None);
     }
     let lines = Lines { refused, ends };
-    let block = told_of_run(alloc, shown, number, order, &run, &lines)?;
+    let block = told_of_run(alloc, shown, number, order, run, &lines)?;
     Ok(Some(block))
 }
 

@@ -4,7 +4,7 @@
 //! those that it changed too, it need not be made again: the state that it leads to has the same sections in place of these.
 
 use crate::states::hash_of;
-use co_base::{Memory, Tag};
+use co_base::Tag;
 use gathered::{Gathered, at, between, put};
 use std::alloc::Global;
 
@@ -57,11 +57,11 @@ pub(crate) struct Effects {
     /// For each content, where it ends.
     ends: Gathered<usize>,
     /// At the place that a hash of a content names, or the next free one, the number behind its own.
-    seats: Vec<u32>,
+    seats: Gathered<u32>,
     effects: Gathered<Effect>,
     changes: Gathered<Change>,
     /// At the place that a hash of a coroutine, its section and the Jobs names, the number behind that of the last effect.
-    heads: Vec<u32>,
+    heads: Gathered<u32>,
 }
 
 impl Effects {
@@ -69,34 +69,32 @@ impl Effects {
         Effects {
             numbers: Gathered::new(alloc),
             ends: Gathered::new(alloc),
-            seats: Vec::new(alloc),
+            seats: Gathered::new(alloc),
             effects: Gathered::new(alloc),
             changes: Gathered::new(alloc),
-            heads: Vec::new(alloc),
+            heads: Gathered::new(alloc),
         }
     }
 
     /// Makes the tables, if they are not there; forgets all, if there is too much.
-    pub(crate) fn make_room(&mut self) -> Result<(), Memory> {
+    pub(crate) fn make_room(&mut self) {
         let few = self.ends.len() < MOST && self.effects.len() < MOST;
-        if few && !self.seats.is_empty() {
-            return Ok(());
+        if few && self.seats.len() > 0 {
+            return;
         }
         self.numbers.clear();
         self.ends.clear();
         self.effects.clear();
         self.changes.clear();
-        self.seats.clear();
-        self.seats.resize(SEATS, 0)?;
-        self.heads.clear();
-        self.heads.resize(SEATS, 0)?;
-        Ok(())
+        make_seats(&mut self.seats);
+        make_seats(&mut self.heads);
     }
 
     /// Whether memory held all that was kept.
     pub(crate) fn is_whole(&self) -> bool {
-        let contents = self.numbers.is_whole() && self.ends.is_whole();
-        contents && self.effects.is_whole() && self.changes.is_whole()
+        let contents = self.numbers.is_whole() && self.ends.is_whole() && self.seats.is_whole();
+        let effects = self.effects.is_whole() && self.heads.is_whole();
+        contents && effects && self.changes.is_whole()
     }
 
     /// A content.
@@ -129,7 +127,7 @@ impl Effects {
         let number = u32::try_from(self.ends.len()).unwrap_or(NO_ROOM);
         self.numbers.add_all(content);
         self.ends.add(self.numbers.len());
-        put(&mut self.seats, place, number.saturating_add(1));
+        put(self.seats.as_mut(), place, number.saturating_add(1));
         number
     }
 
@@ -177,7 +175,15 @@ impl Effects {
             next: at(self.heads.as_slice(), place, 0),
         });
         let number = u32::try_from(self.effects.len()).unwrap_or(0);
-        put(&mut self.heads, place, number);
+        put(self.heads.as_mut(), place, number);
+    }
+}
+
+/// Makes a table with nothing in it.
+fn make_seats(seats: &mut Gathered<u32>) {
+    seats.clear();
+    if seats.as_mut().resize(SEATS, 0).is_err() {
+        seats.full = true;
     }
 }
 

@@ -2,7 +2,6 @@
 
 use crate::losses::read_losses;
 use crate::reads::reads_of;
-use crate::whole::if_whole;
 use co_base::Memory;
 use engine_one::Trial;
 use gathered::{Gathered, at, between, put};
@@ -14,7 +13,7 @@ use std::alloc::Global;
 #[derive(Drop)]
 pub(crate) struct Keys {
     /// For each coroutine whether it reads what it received.
-    reads: Vec<bool>,
+    reads: Gathered<bool>,
     /// Whether losses are told apart.
     losses: bool,
     /// What the last key was made of, from its start on, and the key.
@@ -26,16 +25,16 @@ pub(crate) struct Keys {
 }
 
 impl Keys {
-    pub(crate) fn new(alloc: Global, script: &Script, losses: bool) -> Result<Keys, Memory> {
-        Ok(Keys {
-            reads: reads_of(alloc, script)?,
+    pub(crate) fn new(alloc: Global, script: &Script, losses: bool) -> Keys {
+        Keys {
+            reads: reads_of(alloc, script),
             losses,
             numbers: Gathered::new(alloc),
             start: 0,
             middle: Gathered::new(alloc),
             large: Gathered::new(alloc),
             words: Gathered::new(alloc),
-        })
+        }
     }
 
     /// Makes a key: words that tell how a run can go on, and what its ends tell of what happened before. Two runs with equal words have the
@@ -50,7 +49,8 @@ impl Keys {
             read_losses(&mut self.large, trial, self.reads.len())?;
             self.numbers.add_all(self.large.as_slice());
         }
-        self.pack()
+        self.pack();
+        Ok(())
     }
 
     /// The key that was made last.
@@ -74,8 +74,14 @@ impl Keys {
         self.numbers.add_all(numbers);
     }
 
+    /// Whether memory held all that was made and read.
+    pub(crate) fn is_whole(&self) -> bool {
+        let numbers = self.reads.is_whole() && self.numbers.is_whole();
+        numbers && self.words.is_whole() && self.middle.is_whole() && self.large.is_whole()
+    }
+
     /// Reads the numbers of a key.
-    pub(crate) fn read(&mut self, key: &[u64]) -> Result<(), Memory> {
+    pub(crate) fn read(&mut self, key: &[u64]) {
         let count = (at(key, 0, 0) >> 32) as usize;
         let small = small_words(count);
         self.begin();
@@ -85,21 +91,18 @@ impl Keys {
         }
         self.numbers.truncate(count.saturating_add(8));
         put_middle(self.numbers.as_mut(), key, small);
-        if_whole(self.numbers.is_whole())
     }
 
     /// Makes words of the numbers. The first half of a word tells how many there are. Eight small ones are in each half that follows;
     /// behind them are those that are not small, eight in each word, and behind these those that are large: of each that follows, what
     /// stands for it has a mark.
-    pub(crate) fn pack(&mut self) -> Result<(), Memory> {
+    pub(crate) fn pack(&mut self) {
         self.words.clear();
         self.middle.clear();
         self.large.clear();
         pack_small(self.numbers.as_slice(), &mut self.words, &mut self.middle);
         pack_middle(self.middle.as_slice(), &mut self.words, &mut self.large);
         self.words.add_all(self.large.as_slice());
-        let numbers = self.numbers.is_whole() && self.words.is_whole();
-        if_whole(numbers && self.middle.is_whole() && self.large.is_whole())
     }
 }
 

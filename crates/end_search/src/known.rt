@@ -7,11 +7,9 @@ ghost use Rattle.engine_one.specs.Trials.{TrialStands};
 use crate::aheads::Poll;
 use crate::effects::{Change, Effect, Effects, NO_ROOM};
 use crate::keys::Keys;
-use crate::local::is_local;
-use crate::parts::{Around, Desk, Part};
+use crate::parts::{Around, Desk, Part, Task, add_poll, poll_made};
 use crate::sections::Layout;
 use crate::states::hash_of;
-use crate::whole::if_whole;
 use channel_model::{Act, ChannelNote};
 use co_base::{ChannelId, Gate, Memory, Tag};
 use engine_one::Trial;
@@ -62,9 +60,9 @@ pub(crate) struct Known {
 }
 
 impl Known {
-    pub(crate) fn new(alloc: Global, script: &Script) -> Result<Known, Memory> {
-        Ok(Known {
-            layout: Layout::new(alloc, script)?,
+    pub(crate) fn new(alloc: Global, script: &Script) -> Known {
+        Known {
+            layout: Layout::new(alloc, script),
             effects: Effects::new(alloc),
             sections: Gathered::new(alloc),
             behind: Gathered::new(alloc),
@@ -73,7 +71,7 @@ impl Known {
             known: 0,
             made: 0,
             left: 0,
-        })
+        }
     }
 
     /// Whether to look at the next state by what is known: of the polls of late at least half were known. Where channels have ever new
@@ -100,11 +98,11 @@ impl Known {
         (own, at(sections, self.layout.channels(), 0))
     }
 
-    /// Tells whether memory held all that was kept.
-    pub(crate) fn whole(&self) -> Result<(), Memory> {
+    /// Whether memory held all that was kept.
+    pub(crate) fn is_whole(&self) -> bool {
         let states = self.sections.is_whole() && self.behind.is_whole();
         let kept = self.changes.is_whole() && self.effects.is_whole();
-        if_whole(states && kept && self.ends.is_whole())
+        states && kept && self.ends.is_whole() && self.layout.is_whole()
     }
 
     /// What a poll of this coroutine does in the state that is looked at, if it is known.
@@ -118,16 +116,16 @@ impl Known {
 /// sections cannot be kept.
 pub(crate) fn add_by_effects<G: Gate>(
     alloc: Global,
-    around: Around,
+    around: &Around,
     gate: &G,
     desk: &mut Desk,
     part: &mut Part,
 ) -> Result<bool, Memory>
-    requires { TrialStands (program_of around.task.script.now) desk.old.trial }
-    ensures { OnOk result (TrialStands (program_of around.entry.task.script.now) desk.new.trial) }
+    requires { TrialStands (program_of around.now.task.script.now) desk.old.trial }
+    ensures { OnOk result (TrialStands (program_of around.now.task.script.now) desk.new.trial) }
 {
-    desk.keys.read(around.states.key_of(around.state as usize))?;
-    if !read_state(&mut desk.known, &desk.keys)? {
+    desk.keys.read(around.states.key_of(around.state as usize));
+    if !read_state(&mut desk.known, &desk.keys) {
         return Ok(false);
     }
     let mut there = false;
@@ -135,7 +133,7 @@ pub(crate) fn add_by_effects<G: Gate>(
         let Some(poll) = poll_by(alloc, around, gate, desk, tag, &mut there)? else {
             continue;
         };
-        add_poll(around, desk.keys.last(), part, poll);
+        let _new = add_poll(around, desk.keys.last(), part, poll);
         if poll.local {
             return Ok(true);
         }
@@ -143,65 +141,54 @@ pub(crate) fn add_by_effects<G: Gate>(
     Ok(true)
 }
 
-/// Adds this poll, which leads to a state with this key; if it suffices, it alone.
-fn add_poll(around: Around, key: &[u64], part: &mut Part, poll: Poll) {
-    if poll.local {
-        part.take_back();
-    }
-    let seen = around.states.has(poll.hash, key);
-    part.add(poll, seen, key);
-}
-
 /// The poll of this coroutine in the state that is looked at, if it does something; the key of the state that it leads to is made then.
 /// `there` tells whether the run is at the state.
 fn poll_by<G: Gate>(
     alloc: Global,
-    around: Around,
+    around: &Around,
     gate: &G,
     desk: &mut Desk,
     tag: Tag,
     there: &mut bool,
 ) -> Result<Option<Poll>, Memory>
-    requires { TrialStands (program_of around.task.script.now) desk.old.trial }
-    ensures { OnOk result (TrialStands (program_of around.entry.task.script.now) desk.new.trial) }
+    requires { TrialStands (program_of around.now.task.script.now) desk.old.trial }
+    ensures { OnOk result (TrialStands (program_of around.now.task.script.now) desk.new.trial) }
 {
     if let Some(effect) = desk.known.effect_of(tag) {
-        desk.known.known = desk.known.known.saturating_add(1);
-        return poll_known(&mut desk.known, &mut desk.keys, tag, effect);
+        return Ok(poll_known(&mut desk.known, &mut desk.keys, tag, effect));
     }
     desk.known.made = desk.known.made.saturating_add(1);
     if !*there {
-        around.states.read_order(around.state, &mut desk.order)?;
+        around.states.read_order(around.state, &mut desk.order);
         desk.trial
             .go_to(alloc, around.task.script, gate, desk.order.as_slice())?;
     }
-    let made = poll_made(around, gate, desk, tag)?;
+    let made = make_poll(around.task, gate, desk, tag)?;
     *there = made.is_none();
     Ok(made)
 }
 
 /// Numbers the sections of the state whose key was read last. The answer is no, if there is no room.
-fn read_state(known: &mut Known, keys: &Keys) -> Result<bool, Memory> {
-    known.effects.make_room()?;
-    Ok(read_sections(
+fn read_state(known: &mut Known, keys: &Keys) -> bool {
+    known.effects.make_room();
+    read_sections(
         &known.layout,
         &mut known.effects,
-        keys,
+        keys.numbers(),
         &mut known.ends,
         &mut known.sections,
-    ))
+    )
 }
 
-/// Numbers the sections of the key that was made or read last. The answer is no, if there is no room.
+/// Numbers the sections of a key, of which these are the numbers. The answer is no, if there is no room.
 fn read_sections(
     layout: &Layout,
     effects: &mut Effects,
-    keys: &Keys,
+    numbers: &[u64],
     ends: &mut Gathered<usize>,
     sections: &mut Gathered<u32>,
 ) -> bool {
     sections.clear();
-    let numbers = keys.numbers();
     layout.read_ends(numbers, ends);
     ends.add(numbers.len());
     let mut from = 0usize;
@@ -217,14 +204,10 @@ fn read_sections(
 }
 
 /// The poll that does this, if anything; the key of the state that it leads to is made then.
-fn poll_known(
-    known: &mut Known,
-    keys: &mut Keys,
-    tag: Tag,
-    effect: Effect,
-) -> Result<Option<Poll>, Memory> {
+fn poll_known(known: &mut Known, keys: &mut Keys, tag: Tag, effect: Effect) -> Option<Poll> {
+    known.known = known.known.saturating_add(1);
     if !effect.moved {
-        return Ok(None);
+        return None;
     }
     known.behind.clear();
     known.behind.add_all(known.sections.as_slice());
@@ -233,12 +216,12 @@ fn poll_known(
     for number in known.behind.as_slice() {
         keys.add(known.effects.content(*number));
     }
-    keys.pack()?;
-    Ok(Some(Poll {
+    keys.pack();
+    Some(Poll {
         tag,
         local: effect.local,
         hash: hash_of(keys.last()),
-    }))
+    })
 }
 
 fn put_changes(sections: &mut Vec<u32>, changes: &[Change]) {
@@ -249,31 +232,25 @@ fn put_changes(sections: &mut Vec<u32>, changes: &[Change]) {
 
 /// Polls this coroutine where the run is, and keeps what it did. The answer is the poll, if it did anything; the key of the state that it
 /// leads to is made then.
-fn poll_made<G: Gate>(
-    around: Around,
+fn make_poll<G: Gate>(
+    task: Task,
     gate: &G,
     desk: &mut Desk,
     tag: Tag,
 ) -> Result<Option<Poll>, Memory>
-    requires { TrialStands (program_of around.task.script.now) desk.old.trial }
-    ensures { OnOk result (TrialStands (program_of around.entry.task.script.now) desk.new.trial) }
+    requires { TrialStands (program_of task.script.now) desk.old.trial }
+    ensures { OnOk result (TrialStands (program_of task.entry.script.now) desk.new.trial) }
 {
-    let script = around.task.script;
     let before = noted(&desk.trial, tag).len();
-    let Some(polled) = desk.trial.poll(script, gate, tag)? else {
+    let Some(polled) = desk.trial.poll(task.script, gate, tag)? else {
         keep_nothing(&mut desk.known, tag);
         return Ok(None);
     };
-    let local = is_local(script, around.task.calm, polled);
-    desk.keys.make(&desk.trial)?;
+    let poll = poll_made(task, &mut desk.keys, &desk.trial, polled)?;
     let items = noted(&desk.trial, tag);
     let told = between(items, before, items.len());
-    keep_effect(&mut desk.known, &desk.keys, tag, told, local);
-    Ok(Some(Poll {
-        tag,
-        local,
-        hash: hash_of(desk.keys.last()),
-    }))
+    keep_effect(&mut desk.known, desk.keys.numbers(), told, poll);
+    Ok(Some(poll))
 }
 
 /// Keeps that a poll of this coroutine did nothing.
@@ -283,17 +260,17 @@ fn keep_nothing(known: &mut Known, tag: Tag) {
     keep_did(known, tag, &[], (false, false));
 }
 
-/// Keeps what a poll did that noted this, if there is room.
-fn keep_effect(known: &mut Known, keys: &Keys, tag: Tag, noted: &[Item], local: bool) {
+/// Keeps what a poll did that noted this and led to a state with these numbers, if there is room.
+fn keep_effect(known: &mut Known, numbers: &[u64], noted: &[Item], poll: Poll) {
     let kept = read_sections(
         &known.layout,
         &mut known.effects,
-        keys,
+        numbers,
         &mut known.ends,
         &mut known.behind,
     );
     if kept {
-        keep_did(known, tag, noted, (true, local));
+        keep_did(known, poll.tag, noted, (true, poll.local));
     }
 }
 

@@ -16,7 +16,7 @@ use engine_one::{Polled, Trial};
 use gathered::{Gathered, at, between, put};
 use note_book::{Item, Notes};
 use script_reader::Script;
-use std::alloc::{AllocError, Global};
+use std::alloc::Global;
 use std::sync::atomic::{AtomicU32, Ordering};
 use std::thread;
 use std::thread::Threads;
@@ -217,7 +217,7 @@ pub(crate) struct Desk {
     pub(crate) keys: Keys,
     pub(crate) known: Known,
     /// The polls by which the state that is looked at was reached.
-    pub(crate) order: Vec<Tag>,
+    pub(crate) order: Gathered<Tag>,
     in_mind: InMind,
 }
 
@@ -225,26 +225,35 @@ pub(crate) struct Desk {
 #[derive(Drop)]
 struct InMind {
     /// At the place that a hash names, one of a state that was new.
-    hashes: Vec<u64>,
+    hashes: Gathered<u64>,
     /// At the place that a coroutine and its last note name, whether the poll behind such a note did not suffice, when it was made last.
-    habits: Vec<bool>,
+    habits: Gathered<bool>,
 }
 
 impl InMind {
-    fn new(alloc: Global) -> Result<InMind, AllocError> {
-        Ok(InMind {
-            hashes: vec![in alloc; 0u64; HASHES]?,
-            habits: vec![in alloc; false; HABITS]?,
-        })
+    fn new(alloc: Global) -> InMind {
+        InMind {
+            hashes: same_of(alloc, 0u64, HASHES),
+            habits: same_of(alloc, false, HABITS),
+        }
     }
 
     /// Whether the state with this hash was none of those new ones that are in mind. It is one of them then.
     fn is_first(&mut self, hash: u64) -> bool {
         let place = hash as usize & self.hashes.len().saturating_sub(1);
         let is_first = at(self.hashes.as_slice(), place, 0) != hash;
-        put(&mut self.hashes, place, hash);
+        put(self.hashes.as_mut(), place, hash);
         is_first
     }
+}
+
+/// A list with this value so many times.
+fn same_of<T: Copy + Drop>(alloc: Global, value: T, count: usize) -> Gathered<T> {
+    let mut list = Gathered::new(alloc);
+    for _ in 0..count {
+        list.add(value);
+    }
+    list
 }
 
 impl Desk {
@@ -253,11 +262,17 @@ impl Desk {
     {
         Ok(Desk {
             trial: Trial::new(alloc, task.script)?,
-            keys: Keys::new(alloc, task.script, task.losses)?,
-            known: Known::new(alloc, task.script)?,
-            in_mind: InMind::new(alloc)?,
-            order: Vec::new(alloc),
+            keys: Keys::new(alloc, task.script, task.losses),
+            known: Known::new(alloc, task.script),
+            in_mind: InMind::new(alloc),
+            order: Gathered::new(alloc),
         })
+    }
+
+    /// Whether memory held all lists that are kept from one state to the next.
+    fn is_whole(&self) -> bool {
+        let in_mind = self.in_mind.hashes.is_whole() && self.in_mind.habits.is_whole();
+        in_mind && self.order.is_whole() && self.keys.is_whole() && self.known.is_whole()
     }
 }
 
@@ -275,11 +290,25 @@ pub(crate) fn parts_of<R: Threads + Sync, G: Gate + Sync>(
     requires { TrialStands (program_of task.script.now) desk.old.trial }
     ensures { OnOk result (TrialStands (program_of task.entry.script.now) desk.new.trial) }
 {
-    let next = AtomicU32::new(0);
     let workers = u32::from(workers).min(span.pieces()).max(1);
     if workers == 1 {
+        let next = AtomicU32::new(0);
         return pieces_of(alloc, task, gate, states, span, &next, desk);
     }
+    parts_apart(rt, alloc, task, gate, states, span, workers)
+}
+
+/// The same by several workers.
+fn parts_apart<R: Threads + Sync, G: Gate + Sync>(
+    rt: &R,
+    alloc: Global,
+    task: Task,
+    gate: &G,
+    states: &States,
+    span: Span,
+    workers: u32,
+) -> Result<Vec<Part>, Memory> {
+    let next = AtomicU32::new(0);
     let found = thread::map_indices(
         rt,
         alloc,
@@ -288,32 +317,32 @@ pub(crate) fn parts_of<R: Threads + Sync, G: Gate + Sync>(
     )?;
     let mut parts = Vec::new(alloc);
     for some in found {
-        for part in some? {
-            parts.push(part)?;
-        }
+        let mut more = some?;
+        parts.append(&mut more)?;
     }
-    in_order(alloc, span, parts)
+    put_in_order(span.from, &mut parts);
+    Ok(parts)
 }
 
-/// These parts in the order of their states.
-fn in_order(alloc: Global, span: Span, parts: Vec<Part>) -> Result<Vec<Part>, Memory> {
-    let mut places = Vec::new(alloc);
-    for _ in 0..span.pieces() {
-        places.push(None)?;
-    }
-    for part in parts {
-        let place = part.span.from.saturating_sub(span.from) / FEW;
-        if let Some(here) = places.get_mut(place as usize) {
-            *here = Some(part);
+/// Puts these parts in the order of their states, of which this is the first.
+fn put_in_order(from: u32, parts: &mut Vec<Part>) {
+    for place in 0..parts.len() {
+        for _ in place..parts.len() {
+            let there = place_of(from, parts.as_slice(), place);
+            if there <= place || there >= parts.len() {
+                break;
+            }
+            parts.swap(place, there);
         }
     }
-    let mut sorted = Vec::new(alloc);
-    for part in places {
-        if let Some(part) = part {
-            sorted.push(part)?;
-        }
+}
+
+/// Where a part belongs that stands at this place.
+fn place_of(from: u32, parts: &[Part], place: usize) -> usize {
+    match parts.get(place) {
+        Some(part) => (part.span.from.saturating_sub(from) / FEW) as usize,
+        None => 0,
     }
-    Ok(sorted)
 }
 
 /// The parts that a worker finds at a desk of its own.
@@ -373,10 +402,10 @@ fn part_of<G: Gate>(
             state,
             ahead: states.aheads.of(state),
         };
-        add_state(alloc, around, gate, desk, &mut part)?;
+        add_state(alloc, &around, gate, desk, &mut part)?;
         part.end_state();
     }
-    if_whole(part.is_whole())?;
+    if_whole(part.is_whole() && desk.is_whole())?;
     Ok(part)
 }
 
@@ -392,7 +421,7 @@ pub(crate) struct Around<'a> {
 
 impl Around<'_> {
     /// What was found of the state itself, if it was.
-    fn found(self) -> Option<Found> {
+    fn found(&self) -> Option<Found> {
         match self.ahead {
             Some(ahead) => ahead.first(),
             None => None,
@@ -403,41 +432,40 @@ impl Around<'_> {
 /// Adds the polls that do something in a state; or one of them alone, if that suffices.
 fn add_state<G: Gate>(
     alloc: Global,
-    around: Around,
+    around: &Around,
     gate: &G,
     desk: &mut Desk,
     part: &mut Part,
 ) -> Result<(), Memory>
-    requires { TrialStands (program_of around.task.script.now) desk.old.trial }
-    ensures { OnOk result (TrialStands (program_of around.entry.task.script.now) desk.new.trial) }
+    requires { TrialStands (program_of around.now.task.script.now) desk.old.trial }
+    ensures { OnOk result (TrialStands (program_of around.now.task.script.now) desk.new.trial) }
 {
     let serves = desk.known.serves();
     if serves && around.task.plain && around.state > 0 {
         if add_by_effects(alloc, around, gate, desk, part)? {
-            return desk.known.whole();
+            return Ok(());
         }
     }
-    let mut order = Vec::new(alloc);
-    around.states.read_order(around.state, &mut order)?;
-    add_polls(alloc, around, gate, desk, part, order.as_slice())
+    around.states.read_order(around.state, &mut desk.order);
+    add_polls(alloc, around, gate, desk, part)
 }
 
-/// Adds the polls that do something behind this order; or one of them alone, if that suffices.
+/// Adds the polls that do something behind the order that was read; or one of them alone, if that suffices.
 fn add_polls<G: Gate>(
     alloc: Global,
-    around: Around,
+    around: &Around,
     gate: &G,
     desk: &mut Desk,
     part: &mut Part,
-    order: &[Tag],
 ) -> Result<(), Memory>
-    requires { TrialStands (program_of around.task.script.now) desk.old.trial }
-    ensures { OnOk result (TrialStands (program_of around.entry.task.script.now) desk.new.trial) }
+    requires { TrialStands (program_of around.now.task.script.now) desk.old.trial }
+    ensures { OnOk result (TrialStands (program_of around.now.task.script.now) desk.new.trial) }
 {
     let Some(found) = around.found() else {
-        desk.trial.go_to(alloc, around.task.script, gate, order)?;
+        desk.trial
+            .go_to(alloc, around.task.script, gate, desk.order.as_slice())?;
         let end = desk.trial.stuck_from();
-        return add_polls_among(alloc, around, gate, desk, part, order, None, end);
+        return add_polls_among(alloc, around, gate, desk, part, None, end);
     };
     let Some(poll) = found.poll else {
         return Ok(());
@@ -447,11 +475,11 @@ fn add_polls<G: Gate>(
         return Ok(());
     }
     let end = found.stuck_from.max(poll.tag.saturating_add(1));
-    add_polls_among(alloc, around, gate, desk, part, order, Some(poll), end)
+    add_polls_among(alloc, around, gate, desk, part, Some(poll), end)
 }
 
 /// Adds the poll that was found of the state, and what was found behind it.
-fn add_known(around: Around, part: &mut Part, poll: Poll) {
+fn add_known(around: &Around, part: &mut Part, poll: Poll) {
     if let Some(ahead) = around.ahead {
         part.add_ahead(around.states, poll, ahead);
     }
@@ -460,16 +488,15 @@ fn add_known(around: Around, part: &mut Part, poll: Poll) {
 /// The same of those up to a tag, of which one may be known.
 fn add_polls_among<G: Gate>(
     alloc: Global,
-    around: Around,
+    around: &Around,
     gate: &G,
     desk: &mut Desk,
     part: &mut Part,
-    order: &[Tag],
     known: Option<Poll>,
     end: Tag,
 ) -> Result<(), Memory>
-    requires { TrialStands (program_of around.task.script.now) desk.old.trial }
-    ensures { OnOk result (TrialStands (program_of around.entry.task.script.now) desk.new.trial) }
+    requires { TrialStands (program_of around.now.task.script.now) desk.old.trial }
+    ensures { OnOk result (TrialStands (program_of around.now.task.script.now) desk.new.trial) }
 {
     let mut from = 0;
     let mut known = known;
@@ -478,7 +505,7 @@ fn add_polls_among<G: Gate>(
             Some(poll) => poll.tag,
             None => end,
         };
-        if let Some(poll) = add_next(alloc, around, gate, desk, part, order, from, until)? {
+        if let Some(poll) = add_next(alloc, around, gate, desk, part, from, until)? {
             if poll.local {
                 return Ok(());
             }
@@ -495,117 +522,117 @@ fn add_polls_among<G: Gate>(
     Ok(())
 }
 
-/// Adds the first poll of these tags behind this order that does something, if there is one; if that suffices, it alone.
+/// Adds the first poll of these tags that does something in the state, if there is one; if that suffices, it alone.
 fn add_next<G: Gate>(
     alloc: Global,
-    around: Around,
+    around: &Around,
     gate: &G,
     desk: &mut Desk,
     part: &mut Part,
-    order: &[Tag],
     from: Tag,
     until: Tag,
 ) -> Result<Option<Poll>, Memory>
-    requires { TrialStands (program_of around.task.script.now) desk.old.trial }
-    ensures { OnOk result (TrialStands (program_of around.entry.task.script.now) desk.new.trial) }
+    requires { TrialStands (program_of around.now.task.script.now) desk.old.trial }
+    ensures { OnOk result (TrialStands (program_of around.now.task.script.now) desk.new.trial) }
 {
     if from >= until {
         return Ok(None);
     }
-    desk.trial.go_to(alloc, around.task.script, gate, order)?;
-    add_first(around, gate, desk, part, from, until)
-}
-
-/// The same where the run is.
-fn add_first<G: Gate>(
-    around: Around,
-    gate: &G,
-    desk: &mut Desk,
-    part: &mut Part,
-    from: Tag,
-    until: Tag,
-) -> Result<Option<Poll>, Memory>
-    requires { TrialStands (program_of around.task.script.now) desk.old.trial }
-    ensures { OnOk result (TrialStands (program_of around.entry.task.script.now) desk.new.trial) }
-{
-    let Some(polled) = first_among(around.task, gate, desk, from, until)? else {
+    let script = around.task.script;
+    desk.trial
+        .go_to(alloc, script, gate, desk.order.as_slice())?;
+    let Some(polled) = first_among(script, gate, &mut desk.trial, from, until)? else {
         return Ok(None);
     };
-    let poll = poll_made(around.task, desk, polled)?;
-    if poll.local {
-        part.take_back();
-    }
-    let seen = around.states.has(poll.hash, desk.keys.last());
-    part.add(poll, seen, desk.keys.last());
-    if !seen && desk.in_mind.is_first(poll.hash) {
+    let poll = poll_made(around.task, &mut desk.keys, &desk.trial, polled)?;
+    if add_poll(around, desk.keys.last(), part, poll) && desk.in_mind.is_first(poll.hash) {
         look_ahead(around, gate, desk, part, poll)?;
     }
     Ok(Some(poll))
 }
 
+/// Adds this poll, which leads to a state with this key; if it suffices, it alone. The answer says whether that state was not seen.
+pub(crate) fn add_poll(around: &Around, key: &[u64], part: &mut Part, poll: Poll) -> bool {
+    if poll.local {
+        part.take_back();
+    }
+    let seen = around.states.has(poll.hash, key);
+    part.add(poll, seen, key);
+    !seen
+}
+
 /// The first poll of these tags that does something, if there is one.
 fn first_among<G: Gate>(
-    task: Task,
+    script: &Script,
     gate: &G,
-    desk: &mut Desk,
+    trial: &mut Trial<Notes>,
     from: Tag,
     until: Tag,
 ) -> Result<Option<Polled>, Memory>
-    requires { TrialStands (program_of task.script.now) desk.old.trial }
-    ensures { OnOk result (TrialStands (program_of task.entry.script.now) desk.new.trial) }
+    requires { TrialStands (program_of script.now) trial.old }
+    ensures { OnOk result (TrialStands (program_of script.now) trial.new) }
 {
     for tag in from..until {
-        if let Some(polled) = desk.trial.poll(task.script, gate, tag)? {
+        if let Some(polled) = trial.poll(script, gate, tag)? {
             return Ok(Some(polled));
         }
     }
     Ok(None)
 }
 
-/// The poll that was made last, and the key of the state that it led to.
-fn poll_made(task: Task, desk: &mut Desk, polled: Polled) -> Result<Poll, Memory>
-    requires { TrialStands (program_of task.script.now) desk.old.trial }
-    ensures { OnOk result (TrialStands (program_of task.entry.script.now) desk.new.trial) }
-{
-    desk.keys.make(&desk.trial)?;
+/// The poll that was made last; the key of the state that it led to is made.
+pub(crate) fn poll_made(
+    task: Task,
+    keys: &mut Keys,
+    trial: &Trial<Notes>,
+    polled: Polled,
+) -> Result<Poll, Memory> {
+    keys.make(trial)?;
     Ok(Poll {
         tag: polled.tag,
         local: is_local(task.script, task.calm, polled),
-        hash: hash_of(desk.keys.last()),
+        hash: hash_of(keys.last()),
     })
 }
 
 /// Looks at the state that this poll led to; and on, as long as one poll suffices and leads to a state that is new.
 fn look_ahead<G: Gate>(
-    around: Around,
+    around: &Around,
     gate: &G,
     desk: &mut Desk,
     part: &mut Part,
     poll: Poll,
 ) -> Result<(), Memory>
-    requires { TrialStands (program_of around.task.script.now) desk.old.trial }
-    ensures { OnOk result (TrialStands (program_of around.entry.task.script.now) desk.new.trial) }
+    requires { TrialStands (program_of around.now.task.script.now) desk.old.trial }
+    ensures { OnOk result (TrialStands (program_of around.now.task.script.now) desk.new.trial) }
 {
+    let task = around.task;
     let mut before = poll;
     'states: for _ in 0..ROW {
         let stuck_from = desk.trial.stuck_from();
-        let Some(polled) = poll_behind(around.task, gate, desk, before)? else {
+        let Some(polled) = poll_behind(task, gate, &mut desk.trial, &mut desk.in_mind, before)?
+        else {
             part.add_found(&[no_poll(stuck_from)], &[]);
             return Ok(());
         };
-        let poll = poll_made(around.task, desk, polled)?;
-        let found = Found {
-            poll: Some(poll),
-            words: desk.keys.last().len(),
-            stuck_from,
-        };
-        part.add_found(&[found], desk.keys.last());
-        if !poll.local || around.states.has(poll.hash, desk.keys.last()) {
+        let poll = poll_made(task, &mut desk.keys, &desk.trial, polled)?;
+        if !add_behind(around, desk.keys.last(), part, poll, stuck_from) {
             return Ok(());
         }
         before = poll;
     }
     Ok(())
+}
+
+/// Adds what was found of a state: this poll, which leads to one with this key. The answer says whether that is to be looked at, too.
+fn add_behind(around: &Around, key: &[u64], part: &mut Part, poll: Poll, stuck_from: Tag) -> bool {
+    let found = Found {
+        poll: Some(poll),
+        words: key.len(),
+        stuck_from,
+    };
+    part.add_found(&[found], key);
+    poll.local && !around.states.has(poll.hash, key)
 }
 
 fn no_poll(stuck_from: Tag) -> Found {
@@ -623,34 +650,33 @@ fn no_poll(stuck_from: Tag) -> Found {
 fn poll_behind<G: Gate>(
     task: Task,
     gate: &G,
-    desk: &mut Desk,
+    trial: &mut Trial<Notes>,
+    in_mind: &mut InMind,
     before: Poll,
 ) -> Result<Option<Polled>, Memory>
-    requires { TrialStands (program_of task.script.now) desk.old.trial }
-    ensures { OnOk result (TrialStands (program_of task.entry.script.now) desk.new.trial) }
+    requires { TrialStands (program_of task.script.now) trial.old }
+    ensures { OnOk result (TrialStands (program_of task.entry.script.now) trial.new) }
 {
-    if let Some(habit) = habit_of(desk, before) {
-        if let Some(polled) = desk.trial.poll(task.script, gate, before.tag)? {
+    let habit = habit_of(trial.book(before.tag as usize), before);
+    if !at(in_mind.habits.as_slice(), habit, true) {
+        if let Some(polled) = trial.poll(task.script, gate, before.tag)? {
             let suffices = is_local(task.script, task.calm, polled);
-            put(&mut desk.in_mind.habits, habit, !suffices);
+            put(in_mind.habits.as_mut(), habit, !suffices);
             return Ok(Some(polled));
         }
     }
-    desk.trial.first_that_moves(task.script, gate, 0)
+    trial.first_that_moves(task.script, gate, 0)
 }
 
-/// The place of the habit of the coroutine that made this poll, if it may be the one whose next poll suffices.
-fn habit_of(desk: &Desk, before: Poll) -> Option<usize> {
-    if before.local {
-        return None;
-    }
-    let tag = before.tag as usize;
-    let note = last_note(desk.trial.book(tag))?;
-    let place = tag.wrapping_mul(8).wrapping_add(note) & HABITS.saturating_sub(1);
-    if at(desk.in_mind.habits.as_slice(), place, true) {
-        None
-    } else {
-        Some(place)
+/// The place of the habit of the coroutine that made this poll, and has this book, if it may be the one whose next poll suffices; else no
+/// place.
+fn habit_of(book: Option<&Notes>, before: Poll) -> usize {
+    match last_note(book) {
+        Some(note) if !before.local => {
+            let place = (before.tag as usize).wrapping_mul(8).wrapping_add(note);
+            place & HABITS.saturating_sub(1)
+        }
+        _ => HABITS,
     }
 }
 

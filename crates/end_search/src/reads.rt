@@ -1,17 +1,18 @@
 //! Which coroutines read what they received.
 
-use co_base::{Memory, Tag};
+use co_base::Tag;
+use gathered::Gathered;
 use script_grammar::{Instruction, Operand};
 use script_reader::Script;
 use std::alloc::Global;
 
 /// For each coroutine, in order of tags, whether a line of its block reads what was received.
-pub(crate) fn reads_of(alloc: Global, script: &Script) -> Result<Vec<bool>, Memory> {
-    let mut reads = Vec::new(alloc);
+pub(crate) fn reads_of(alloc: Global, script: &Script) -> Gathered<bool> {
+    let mut reads = Gathered::new(alloc);
     for tag in 0..script.coroutines() {
-        reads.push(does_read(script, tag))?;
+        reads.add(does_read(script, tag));
     }
-    Ok(reads)
+    reads
 }
 
 fn does_read(script: &Script, tag: Tag) -> bool {

@@ -2,7 +2,6 @@
 //! each coroutine, and last of the losses.
 
 use crate::reads::reads_of;
-use co_base::Memory;
 use engine_base::rows_of;
 use gathered::{Gathered, at};
 use script_reader::Script;
@@ -15,23 +14,24 @@ const MANY_PLACES: u32 = 16384;
 #[derive(Drop)]
 pub(crate) struct Layout {
     /// For each channel that the script declares whether it tells how many places were given out.
-    counted: Vec<bool>,
+    counted: Gathered<bool>,
     jobs: u16,
     /// For each coroutine whether it tells what it received.
-    reads: Vec<bool>,
+    reads: Gathered<bool>,
 }
 
 impl Layout {
-    pub(crate) fn new(alloc: Global, script: &Script) -> Result<Layout, Memory> {
-        let mut counted = Vec::new(alloc);
-        for channel in script.channels() {
-            counted.push(channel.places < MANY_PLACES)?;
-        }
-        Ok(Layout {
-            counted,
+    pub(crate) fn new(alloc: Global, script: &Script) -> Layout {
+        Layout {
+            counted: counted_of(alloc, script),
             jobs: rows_of(script),
-            reads: reads_of(alloc, script)?,
-        })
+            reads: reads_of(alloc, script),
+        }
+    }
+
+    /// Whether memory held it.
+    pub(crate) fn is_whole(&self) -> bool {
+        self.counted.is_whole() && self.reads.is_whole()
     }
 
     /// How many channels the script declares: so many sections come before that of the Jobs.
@@ -59,6 +59,15 @@ impl Layout {
             ends.add(end);
         }
     }
+}
+
+/// For each channel that the script declares whether it tells how many places were given out.
+fn counted_of(alloc: Global, script: &Script) -> Gathered<bool> {
+    let mut counted = Gathered::new(alloc);
+    for channel in script.channels() {
+        counted.add(channel.places < MANY_PLACES);
+    }
+    counted
 }
 
 fn number_at(numbers: &[u64], place: usize) -> u64 {

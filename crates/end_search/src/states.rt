@@ -19,7 +19,7 @@ pub(crate) struct States {
     /// How each was reached: from which state, by a poll of which coroutine; and where its key ends.
     steps: Gathered<Step>,
     keys: Gathered<u64>,
-    places: Vec<Seat>,
+    places: Gathered<Seat>,
     most: usize,
     /// What was found of those that were not looked at yet.
     pub(crate) aheads: Aheads,
@@ -56,19 +56,21 @@ const FIRST: Step = Step {
 const SEEN: usize = usize::MAX;
 
 impl States {
-    pub(crate) fn new(alloc: Global, most: u32) -> Result<States, Memory> {
-        let places = vec![in alloc; FREE; PLACES]?;
-        let mut steps = Gathered::new(alloc);
-        steps.add(FIRST);
-        Ok(States {
-            steps,
+    pub(crate) fn new(alloc: Global, most: u32) -> States {
+        let mut states = States {
+            steps: Gathered::new(alloc),
             keys: Gathered::new(alloc),
-            places,
+            places: Gathered::new(alloc),
             most: most as usize,
             aheads: Aheads::new(alloc),
             full: false,
             turns: 0,
-        })
+        };
+        states.steps.add(FIRST);
+        if states.places.as_mut().resize(PLACES, FREE).is_err() {
+            states.places.full = true;
+        }
+        states
     }
 
     pub(crate) fn count(&self) -> usize {
@@ -76,36 +78,30 @@ impl States {
     }
 
     /// Adds the state with this key, and the hash of it, if it is new, which a poll of a coroutine led to. The answer is its number then.
-    pub(crate) fn add(
-        &mut self,
-        from: u32,
-        tag: Tag,
-        hash: u64,
-        key: &[u64],
-    ) -> Result<Option<u32>, Memory> {
+    pub(crate) fn add(&mut self, from: u32, tag: Tag, hash: u64, key: &[u64]) -> Option<u32> {
         self.count_turn();
         let place = self.place_of(hash, key);
         if place == SEEN {
-            return Ok(None);
+            return None;
         }
         let Some(number) = self.next_number() else {
             self.full = true;
-            return Ok(None);
+            return None;
         };
         self.keys.add_all(key);
         let key_end = self.keys.len();
         self.steps.add(Step { key_end, from, tag });
         let hash = half_of(hash);
-        put(&mut self.places, place, Seat { hash, number });
+        put(self.places.as_mut(), place, Seat { hash, number });
         if self.steps.len() > self.places.len() / 4 * 3 {
-            self.grow()?;
+            self.grow();
         }
-        Ok(Some(number))
+        Some(number)
     }
 
     /// Tells whether memory held all that was kept.
     pub(crate) fn whole(&self) -> Result<(), Memory> {
-        let states = self.steps.is_whole() && self.keys.is_whole();
+        let states = self.steps.is_whole() && self.keys.is_whole() && self.places.is_whole();
         if_whole(states && self.aheads.is_whole())
     }
 
@@ -159,7 +155,7 @@ impl States {
             }
             place = place.wrapping_add(1) & mask;
         }
-        put(&mut self.places, place, seat);
+        put(self.places.as_mut(), place, seat);
     }
 
     fn step(&self, state: usize) -> Step {
@@ -175,28 +171,30 @@ impl States {
     /// Doubles the places.
     #[cold]
     #[inline(never)]
-    fn grow(&mut self) -> Result<(), Memory> {
-        let alloc = *self.places.allocator();
+    fn grow(&mut self) {
         let count = self.places.len().saturating_mul(2);
-        let more = vec![in alloc; FREE; count]?;
+        let mut more = Gathered::new(*self.places.as_mut().allocator());
+        if more.as_mut().resize(count, FREE).is_err() {
+            self.places.full = true;
+            return;
+        }
         let old = replace(&mut self.places, more);
         for seat in old.as_slice() {
             if seat.number > 0 {
                 self.put_again(*seat);
             }
         }
-        Ok(())
     }
 
     /// The polls by which a state was first reached, in their order.
     pub(crate) fn order_of(&self, alloc: Global, state: u32) -> Result<Vec<Tag>, Memory> {
-        let mut order = Vec::new(alloc);
-        self.read_order(state, &mut order)?;
-        Ok(order)
+        let mut order = Gathered::new(alloc);
+        self.read_order(state, &mut order);
+        Ok(order.whole()?)
     }
 
     /// The same, in place of what the list has.
-    pub(crate) fn read_order(&self, state: u32, order: &mut Vec<Tag>) -> Result<(), Memory> {
+    pub(crate) fn read_order(&self, state: u32, order: &mut Gathered<Tag>) {
         order.clear();
         let mut here = state;
         for _ in 0..self.steps.len() {
@@ -204,11 +202,10 @@ impl States {
                 break;
             }
             let step = self.step(here as usize);
-            order.push(step.tag)?;
+            order.add(step.tag);
             here = step.from;
         }
-        order.reverse();
-        Ok(())
+        order.as_mut().reverse();
     }
 }
 

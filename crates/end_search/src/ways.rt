@@ -77,6 +77,9 @@ pub(crate) struct Search<'a> {
 struct Course {
     states: States,
     ends: Vec<Way>,
+    /// How many of the ends states showed that were looked at, and whether as many are there as are looked for.
+    reached: usize,
+    found: bool,
     /// What is told of the end of one worker.
     usual: Account,
 }
@@ -89,26 +92,41 @@ pub(crate) fn find_ways<R: Threads + Sync, G: Gate + Sync, E: Sink>(
     gate: &G,
     errors: &mut E,
 ) -> Result<Ways, Memory> {
-    let script = search.task.script;
-    let usual = run_in_order::<Notes, G>(alloc, script, gate, &[])?.done;
     let mut course = Course {
-        states: States::new(alloc, search.states)?,
+        usual: told_in_order(alloc, search, gate, &[])?,
+        states: States::new(alloc, search.states),
         ends: Vec::new(alloc),
-        usual: told_of(alloc, script, search.source, search.tell, &usual)?,
+        reached: 0,
+        found: false,
     };
-    let mut found = look_through(rt, alloc, search, gate, &mut course, errors)?;
-    let reached = course.ends.len();
-    if course.states.full && !found {
-        found = sample(alloc, search, gate, &mut course)?;
-    }
-    Ok(ways_of(course, reached, found))
+    go_through(rt, alloc, search, gate, &mut course, errors)?;
+    Ok(ways_of(course))
 }
 
-/// What a search came to, of which so many ends were reached, and perhaps all that were looked for found.
-fn ways_of(course: Course, reached: usize, found: bool) -> Ways {
+/// Looks at the states; if there are more than is allowed, at runs in random orders, too.
+fn go_through<R: Threads + Sync, G: Gate + Sync, E: Sink>(
+    rt: &R,
+    alloc: Global,
+    search: Search,
+    gate: &G,
+    course: &mut Course,
+    errors: &mut E,
+) -> Result<(), Memory> {
+    course.found = look_through(rt, alloc, search, gate, course, errors)?;
+    course.reached = course.ends.len();
+    if course.states.full && !course.found {
+        course.found = sample(alloc, search, gate, course)?;
+    }
+    Ok(())
+}
+
+/// What a search came to.
+fn ways_of(course: Course) -> Ways {
     let Course {
         states,
         ends,
+        reached,
+        found,
         usual: _,
     } = course;
     Ways {
@@ -222,7 +240,7 @@ fn add_part<G: Gate, E: Sink>(
             tell_progress(alloc, errors, state, &course.states, course.ends.len())?;
         }
         let polls = part.polls_of(place);
-        add_states(&mut course.states, state, part, polls)?;
+        add_states(&mut course.states, state, part, polls);
         if polls.is_empty() {
             let order = course.states.order_of(alloc, state)?;
             push_end(alloc, search, gate, course, order)?;
@@ -235,33 +253,26 @@ fn add_part<G: Gate, E: Sink>(
 }
 
 /// Adds the states that polls in this state lead to.
-fn add_states(
-    states: &mut States,
-    state: u32,
-    part: &Part,
-    polls: &[Reached],
-) -> Result<(), Memory> {
+fn add_states(states: &mut States, state: u32, part: &Part, polls: &[Reached]) {
     for reached in polls {
         if reached.seen {
             states.count_turn();
         } else {
-            add_state(states, state, part, *reached)?;
+            add_state(states, state, part, *reached);
         }
     }
-    Ok(())
 }
 
 /// Adds the state that a poll in this state leads to, if it is new, and what was found of it.
-fn add_state(states: &mut States, state: u32, part: &Part, reached: Reached) -> Result<(), Memory> {
+fn add_state(states: &mut States, state: u32, part: &Part, reached: Reached) {
     let poll = reached.poll;
     let key = part.key_of(reached);
-    if let Some(number) = states.add(state, poll.tag, poll.hash, key)? {
+    if let Some(number) = states.add(state, poll.tag, poll.hash, key) {
         let found = part.found_of(reached);
         states
             .aheads
             .keep(number, found, part.found_keys_of(reached));
     }
-    Ok(())
 }
 
 /// Says how far the search is. If that cannot be written, it is not said.
@@ -290,8 +301,8 @@ fn push_end<G: Gate>(
     course: &mut Course,
     order: Vec<Tag>,
 ) -> Result<(), Memory> {
-    let way = way_of(alloc, search, gate, order)?;
-    push_way(search, course, way)
+    let told = told_in_order(alloc, search, gate, order.as_slice())?;
+    push_way(search, course, Way { order, told })
 }
 
 /// The same of an end that is known.
@@ -357,17 +368,16 @@ fn verdict_of(found: bool, full: bool) -> Verdict {
     }
 }
 
-/// The end that a run in this order comes to.
-fn way_of<G: Gate>(
+/// What is told of the end that a run in this order comes to.
+fn told_in_order<G: Gate>(
     alloc: Global,
     search: Search,
     gate: &G,
-    order: Vec<Tag>,
-) -> Result<Way, Memory> {
+    order: &[Tag],
+) -> Result<Account, Memory> {
     let script = search.task.script;
-    let done = run_in_order::<Notes, G>(alloc, script, gate, order.as_slice())?.done;
-    let told = told_of(alloc, script, search.source, search.tell, &done)?;
-    Ok(Way { order, told })
+    let done = run_in_order::<Notes, G>(alloc, script, gate, order)?.done;
+    told_of(alloc, script, search.source, search.tell, &done)
 }
 
 /// Whether it is an end that is looked for, and none of these.

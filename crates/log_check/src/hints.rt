@@ -1,6 +1,8 @@
 //! What is known of the line where a verdict stops, in words. Nothing is claimed of it.
 
+use channel_model::Standing;
 use co_base::{ChannelId, Memory, Row, Tag};
+use gathered::Text;
 use history_check::Stood;
 use job_model::{Cause, JobState};
 use job_replay::JobLook;
@@ -9,7 +11,7 @@ use one_thread_floor::Snapshot;
 use report_reader::cut_at;
 use run_report::report_of;
 use script_reader::Channel;
-use std::alloc::{AllocError, Global};
+use std::alloc::Global;
 
 /// What is known of a line.
 #[derive(Clone, Copy)]
@@ -29,52 +31,61 @@ pub(crate) fn hint_text(
     channels: &[Channel],
     hint: Hint,
 ) -> Result<Vec<u8>, Memory> {
+    let mut text = Text::new(alloc);
+    add_hint(alloc, &mut text, channels, hint)?;
+    Ok(text.whole()?)
+}
+
+fn add_hint(
+    alloc: Global,
+    text: &mut Text,
+    channels: &[Channel],
+    hint: Hint,
+) -> Result<(), Memory> {
     match hint {
-        Hint::Nothing => Ok(Vec::new(alloc)),
-        Hint::Stood(stood) => stood_text(alloc, channels, stood),
-        Hint::Instead(tag, item) => instead_text(alloc, channels, tag, item),
-        Hint::OfSeveral => Ok(Vec::from_slice(
-            alloc,
-            b"only several workers write this line behind the one before it\n",
-        )?),
+        Hint::Nothing => {}
+        Hint::Stood(stood) => add_stood(text, channels, stood),
+        Hint::Instead(tag, item) => return add_instead(alloc, text, channels, tag, item),
+        Hint::OfSeveral => {
+            text.add(b"only several workers write this line behind the one before it\n");
+        }
     }
+    Ok(())
 }
 
 /// What stood at a channel or a Job, in one line of words.
 pub fn stood_text(alloc: Global, channels: &[Channel], stood: Stood) -> Result<Vec<u8>, Memory> {
-    let mut text = String::new(alloc);
-    push_stood(&mut text, channels, stood)?;
-    Ok(text.into_bytes())
+    let mut text = Text::new(alloc);
+    add_stood(&mut text, channels, stood);
+    Ok(text.whole()?)
 }
 
-fn push_stood(text: &mut String, channels: &[Channel], stood: Stood) -> Result<(), AllocError> {
+fn add_stood(text: &mut Text, channels: &[Channel], stood: Stood) {
     match stood {
-        Stood::Channel(c, at) => push_channel(text, channels, c, at),
-        Stood::Job(row, look) => push_job(text, row, look),
+        Stood::Channel(c, at) => add_channel(text, channels, c, at),
+        Stood::Job(row, look) => add_job(text, row, look),
     }
 }
 
-/// What a coroutine wrote, as a report writes it behind the number of the coroutine, or that it did nothing.
-fn instead_text(
+/// Adds what a coroutine wrote, as a report writes it behind the number of the coroutine, or that it did nothing.
+fn add_instead(
     alloc: Global,
+    text: &mut Text,
     channels: &[Channel],
     tag: Tag,
     item: Option<Item>,
-) -> Result<Vec<u8>, Memory> {
-    let front = format!(in alloc; "coroutine {tag} ")?;
+) -> Result<(), Memory> {
+    text.add_numbered(b"coroutine ", u64::from(tag));
     match item {
         Some(item) => {
             let report = report_with(alloc, channels, item)?;
-            Ok([
-                front.as_bytes(),
-                b"writes there: ",
-                first_words(report.as_bytes()),
-                b"\n",
-            ]
-            .concat(alloc)?)
+            text.add(b" writes there: ");
+            text.add(first_words(report.as_bytes()));
+            text.add(b"\n");
         }
-        None => Ok([front.as_bytes(), b"does nothing there\n"].concat(alloc)?),
+        None => text.add(b" does nothing there\n"),
     }
+    Ok(())
 }
 
 /// The report of a run whose first coroutine noted this and nothing else; no text, if there are more channels than a report can have.
@@ -103,100 +114,63 @@ fn first_words(text: &[u8]) -> &[u8] {
 }
 
 /// Adds what stood at a channel, in words.
-fn push_channel(
-    text: &mut String,
-    channels: &[Channel],
-    c: ChannelId,
-    at: Snapshot,
-) -> Result<(), AllocError> {
+fn add_channel(text: &mut Text, channels: &[Channel], c: ChannelId, at: Snapshot) {
     let Some(channel) = channels.get(c as usize) else {
-        return Ok(());
+        return;
     };
-    let name = channel.name.as_str();
-    let next = at.next;
-    let queued = at.queued;
-    write!(text, "{name}: place {next} is next, {queued} queued")?;
-    push_first_offer(text, at)?;
-    push_first_receiver(text, at)?;
-    push_closed(text, at)?;
-    text.push_str("\n")
-}
-
-fn push_first_offer(text: &mut String, at: Snapshot) -> Result<(), AllocError> {
-    match at.first_offer {
-        Some(offer) => {
-            let value = offer.value;
-            let place = offer.place;
-            write!(text, ", first {value} at place {place}")
-        }
-        None => Ok(()),
+    text.add(channel.name.as_bytes());
+    text.add_numbered(b": place ", u64::from(at.next));
+    text.add_numbered(b" is next, ", at.queued as u64);
+    text.add(b" queued");
+    add_offer(text, at.first_offer);
+    if let Some(receiver) = at.first_receiver {
+        text.add_numbered(b", a receiver waits at place ", u64::from(receiver.place));
     }
-}
-
-fn push_first_receiver(text: &mut String, at: Snapshot) -> Result<(), AllocError> {
-    match at.first_receiver {
-        Some(receiver) => {
-            let place = receiver.place;
-            write!(text, ", a receiver waits at place {place}")
-        }
-        None => Ok(()),
+    if let Some(value) = at.closed {
+        text.add_numbered(b", closed with ", u64::from(value));
     }
+    text.add(b"\n");
 }
 
-fn push_closed(text: &mut String, at: Snapshot) -> Result<(), AllocError> {
-    match at.closed {
-        Some(value) => write!(text, ", closed with {value}"),
-        None => Ok(()),
+fn add_offer(text: &mut Text, offer: Option<Standing>) {
+    if let Some(offer) = offer {
+        text.add_numbered(b", first ", u64::from(offer.value));
+        text.add_numbered(b" at place ", u64::from(offer.place));
     }
 }
 
 /// Adds what stood at the row of a Job, in words.
-fn push_job(text: &mut String, row: Row, look: Option<JobLook>) -> Result<(), AllocError> {
+fn add_job(text: &mut Text, row: Row, look: Option<JobLook>) {
+    text.add_numbered(b"row ", u64::from(row));
     match look {
-        Some(job) => {
-            write!(text, "row {row}: ")?;
-            push_look(text, job)
-        }
-        None => write!(text, "row {row}: not attached\n"),
+        Some(job) => add_look(text, job),
+        None => text.add(b": not attached\n"),
     }
-}
-
-fn push_look(text: &mut String, job: JobLook) -> Result<(), AllocError> {
-    push_state(text, job)?;
-    push_cause(text, job.cause)?;
-    text.push_str(if job.body_ended {
-        ", its body has ended"
-    } else {
-        ""
-    })?;
-    let living = job.living;
-    write!(text, ", {living} of its children live\n")
 }
 
 /// Adds how far a Job is, as it is printed: with its result where it has one.
-fn push_state(text: &mut String, job: JobLook) -> Result<(), AllocError> {
-    let value = job.value;
-    match job.state {
-        JobState::Completing => write!(text, "completing with {value}"),
-        JobState::Completed => write!(text, "completed with {value}"),
-        other => text.push_str(word_of(other)),
+fn add_look(text: &mut Text, job: JobLook) {
+    text.add(word_of(job.state));
+    if matches!(job.state, JobState::Completing | JobState::Completed) {
+        text.add_numbered(b" with ", u64::from(job.value));
     }
+    if let Cause::Failure(failed) = job.cause {
+        text.add_numbered(b" by the failure of ", u64::from(failed));
+    }
+    if job.body_ended {
+        text.add(b", its body has ended");
+    }
+    text.add_numbered(b", ", u64::from(job.living));
+    text.add(b" of its children live\n");
 }
 
-fn word_of(state: JobState) -> &'static str {
+fn word_of(state: JobState) -> &'static [u8] {
     match state {
-        JobState::New => "new",
-        JobState::Active => "active",
-        JobState::Completing => "completing",
-        JobState::Cancelling => "cancelling",
-        JobState::Cancelled => "cancelled",
-        JobState::Completed => "completed",
-    }
-}
-
-fn push_cause(text: &mut String, cause: Cause) -> Result<(), AllocError> {
-    match cause {
-        Cause::Failure(failed) => write!(text, " by the failure of {failed}"),
-        _ => Ok(()),
+        JobState::New => b": new",
+        JobState::Active => b": active",
+        JobState::Completing => b": completing",
+        JobState::Cancelling => b": cancelling",
+        JobState::Cancelled => b": cancelled",
+        JobState::Completed => b": completed",
     }
 }

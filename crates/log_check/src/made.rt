@@ -9,7 +9,7 @@ use crate::polled::{Order, order_by};
 use crate::verdict::{LogVerdict, Logged};
 use co_base::{Gate, Memory, Tag};
 use engine_one::run_in_order;
-use gathered::{Gathered, at, put};
+use gathered::{Gathered, at, between, put};
 use note_book::Notes;
 use run_report::report;
 use script_grammar::FaultKind;
@@ -44,18 +44,12 @@ fn first_lines(alloc: Global, books: &[Notes]) -> Result<Vec<usize>, AllocError>
 }
 
 /// Adds the line of a text that has this number.
-fn push_line(
-    out: &mut Vec<u8>,
-    text: &[u8],
-    ends: &[usize],
-    line: usize,
-) -> Result<(), AllocError> {
+fn add_line(out: &mut Gathered<u8>, text: &[u8], ends: &[usize], line: usize) {
     let start = match line.checked_sub(1) {
         Some(before) => at(ends, before, 0),
         None => 0,
     };
-    let end = at(ends, line, start);
-    out.extend_from_slice(text.get(start..end).unwrap_or(&[]))
+    out.add_all(between(text, start, at(ends, line, start)));
 }
 
 /// The lines of the coroutines, each the next of its own, in the order of these tags.
@@ -65,14 +59,14 @@ fn in_order(
     ends: &[usize],
     next: &mut Vec<usize>,
     whose: &[Tag],
-) -> Result<Vec<u8>, Memory> {
-    let mut out = Vec::new(alloc);
+) -> Result<Vec<u8>, AllocError> {
+    let mut out = Gathered::new(alloc);
     for tag in whose {
         let line = at(next.as_slice(), *tag as usize, usize::MAX);
         put(next, *tag as usize, line.saturating_add(1));
-        push_line(&mut out, text, ends, line)?;
+        add_line(&mut out, text, ends, line);
     }
-    Ok(out)
+    out.whole()
 }
 
 /// The lines of a report in the order of these tags: those of the coroutines, whose books these are.
@@ -81,7 +75,7 @@ fn log_in_order(
     report: &[u8],
     books: &[Notes],
     whose: &[Tag],
-) -> Result<Vec<u8>, Memory> {
+) -> Result<Vec<u8>, AllocError> {
     let ends = line_ends(alloc, report)?;
     let mut next = first_lines(alloc, books)?;
     in_order(alloc, report, ends.as_slice(), &mut next, whose)
@@ -97,7 +91,8 @@ fn text_of<G: Gate>(
     let run = run_in_order::<Notes, G>(alloc, script, gate, order.polls.as_slice())?;
     let told = report(alloc, script, &run.done)?;
     let books = run.done.books.as_slice();
-    log_in_order(alloc, told.as_slice(), books, order.whose.as_slice())
+    let text = log_in_order(alloc, told.as_slice(), books, order.whose.as_slice())?;
+    Ok(text)
 }
 
 /// The text of a log of a run in this order, judged.

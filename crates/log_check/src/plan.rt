@@ -1,10 +1,10 @@
 //! What the lines of a report say of the whole run, before any of them is written. Nothing is claimed of it.
 
 use crate::rows::NO_ROW;
-use crate::sleepers::UNKNOWN;
+use crate::sleepers::{NO_THINGS, Things, same_of};
 use channel_model::{Act, ChannelNote, Kind, Settled};
 use co_base::{ChannelId, Memory, Place, Row, Tag, WaitId};
-use gathered::{at, put};
+use gathered::{Gathered, at, put};
 use history_text::Line;
 use job_model::{JobAct, JobNote};
 use note_book::Item;
@@ -71,7 +71,7 @@ pub(crate) struct ChannelPlan {
 }
 
 /// A channel that there is not.
-const NO_CHANNEL: ChannelPlan = ChannelPlan {
+pub(crate) const NO_CHANNEL: ChannelPlan = ChannelPlan {
     keeps: u32::MAX,
     ..UNUSED
 };
@@ -91,11 +91,12 @@ pub(crate) struct Plan {
     /// Of each coroutine where its lines stand.
     own: Vec<Vec<u32>>,
     /// Of each line the innermost Job of its coroutine.
-    inner: Vec<Row>,
-    pub(crate) channels: Vec<ChannelPlan>,
-    pub(crate) places: Vec<PlacePlan>,
+    inner: Gathered<Row>,
+    pub(crate) channels: Gathered<ChannelPlan>,
+    pub(crate) places: Gathered<PlacePlan>,
     /// How many channels are not done channels.
     declared: usize,
+    pub(crate) things: Things,
 }
 
 fn keeps_of(kind: Kind) -> u32 {
@@ -107,41 +108,41 @@ fn keeps_of(kind: Kind) -> u32 {
     }
 }
 
-/// Where an item begins a place, if it does.
-fn begun_by(item: Item) -> Option<(ChannelId, Place)> {
+/// A place that an item begins: how, and for which wait, if it is for one.
+#[derive(Clone, Copy)]
+struct Begun {
+    c: ChannelId,
+    place: Place,
+    begins: Begins,
+    wait: Option<WaitId>,
+}
+
+/// The place that an item begins, if it begins one, with the item behind it.
+fn begun_by(item: Item, next: Option<Item>) -> Option<Begun> {
     let Item::Channel(ChannelNote::Made(act)) = item else {
         return None;
     };
-    match act {
-        Act::Put { c, place, .. } | Act::Offer { c, place, .. } | Act::Await { c, place, .. } => {
-            Some((c, place))
-        }
-        _ => None,
-    }
+    let (c, place, begins, wait) = match act {
+        Act::Put { c, place, .. } if loses(next) => (c, place, Begins::WhenFull, None),
+        Act::Put { c, place, .. } => (c, place, Begins::WithRoom, None),
+        Act::Offer { c, place, main, .. } => (c, place, Begins::WhenFull, Some(main)),
+        Act::Await { c, place, main, .. } => (c, place, Begins::Receiver, Some(main)),
+        _ => return None,
+    };
+    Some(Begun {
+        c,
+        place,
+        begins,
+        wait,
+    })
 }
 
-/// The wait for which an item begins a place, if it is for one.
-fn wait_of(item: Item) -> Option<WaitId> {
-    match item {
-        Item::Channel(ChannelNote::Made(Act::Offer { main, .. } | Act::Await { main, .. })) => {
-            Some(main)
-        }
-        _ => None,
-    }
-}
-
-/// How an item begins a place, with the item behind it.
-fn beginning_of(item: Item, next: Option<Item>) -> Begins {
-    match item {
-        Item::Channel(ChannelNote::Made(Act::Await { .. })) => Begins::Receiver,
-        Item::Channel(ChannelNote::Made(Act::Offer { .. })) => Begins::WhenFull,
-        _ => match next {
-            Some(Item::Channel(ChannelNote::Made(Act::Drop { .. } | Act::Spurn { .. }))) => {
-                Begins::WhenFull
-            }
-            _ => Begins::WithRoom,
-        },
-    }
+/// Whether an item tells that an element is lost.
+fn loses(item: Option<Item>) -> bool {
+    matches!(
+        item,
+        Some(Item::Channel(ChannelNote::Made(Act::Drop { .. } | Act::Spurn { .. })))
+    )
 }
 
 /// The wait for which a place was begun, if it was for one, and the place.
@@ -167,17 +168,16 @@ impl Waiting {
 }
 
 /// The channels before their lines are counted: those that the script declares, and those of its Jobs.
-fn channels_of(alloc: Global, script: &Script) -> Result<Vec<ChannelPlan>, Memory> {
-    let declared = script.channels();
-    let count = declared.len().saturating_add(script.jobs() as usize);
-    let mut channels = vec![in alloc; UNUSED; count]?;
-    let mut c = 0usize;
-    for channel in declared {
+fn channels_of(alloc: Global, script: &Script) -> Gathered<ChannelPlan> {
+    let mut channels = Gathered::new(alloc);
+    for channel in script.channels() {
         let keeps = keeps_of(channel.kind);
-        put(&mut channels, c, ChannelPlan { keeps, ..UNUSED });
-        c = c.saturating_add(1);
+        channels.add(ChannelPlan { keeps, ..UNUSED });
     }
-    Ok(channels)
+    for _ in 0..script.jobs() {
+        channels.add(UNUSED);
+    }
+    channels
 }
 
 /// So many lists with nothing in them.
@@ -203,45 +203,49 @@ fn read_own(own: &mut Vec<Vec<u32>>, lines: &[Line]) -> Result<(), Memory> {
 }
 
 /// Adds the places of a channel.
-fn add_places(
-    places: &mut Vec<PlacePlan>,
-    c: ChannelId,
-    channel: &ChannelPlan,
-) -> Result<(), Memory> {
+fn add_places(places: &mut Gathered<PlacePlan>, c: ChannelId, channel: ChannelPlan) {
     let mut mate = channel.from;
     for _ in 0..channel.count {
-        places.push(PlacePlan {
+        places.add(PlacePlan {
             c,
             mate,
             ..NO_PLACE
-        })?;
+        });
         mate = mate.saturating_add(1);
     }
-    Ok(())
 }
 
 impl Plan {
     /// What these lines say.
     pub(crate) fn new(alloc: Global, script: &Script, lines: &[Line]) -> Result<Plan, Memory> {
+        let mut own = no_lines(alloc, script.coroutines())?;
+        read_own(&mut own, lines)?;
         let mut plan = Plan {
-            own: no_lines(alloc, script.coroutines())?,
-            inner: vec![in alloc; 0u16; lines.len()]?,
-            channels: channels_of(alloc, script)?,
-            places: Vec::new(alloc),
+            own,
+            inner: same_of(alloc, 0u16, lines.len()),
+            channels: channels_of(alloc, script),
+            places: Gathered::new(alloc),
             declared: script.channels().len(),
+            things: NO_THINGS,
         };
-        plan.read_lines(alloc, lines, script.coroutines())?;
-        Ok(plan)
+        let read = plan.read_lines(alloc, lines, script.coroutines());
+        if read { Ok(plan) } else { Err(Memory) }
     }
 
-    fn read_lines(&mut self, alloc: Global, lines: &[Line], coroutines: u16) -> Result<(), Memory> {
-        read_own(&mut self.own, lines)?;
+    /// Reads what the lines say. The answer says whether memory held all of it.
+    fn read_lines(&mut self, alloc: Global, lines: &[Line], coroutines: u16) -> bool {
         self.count_lines(lines);
-        self.lay_out()?;
-        self.read_all(alloc, lines, coroutines)?;
+        self.lay_out();
+        self.things = Things {
+            places: self.places.len(),
+            channels: self.channels.len(),
+        };
+        let mut inside = Gathered::new(alloc);
+        self.read_all(lines, coroutines, &mut inside);
         self.count_elements();
         self.look_ahead();
-        Ok(())
+        let lists = self.inner.is_whole() && self.channels.is_whole();
+        lists && self.places.is_whole() && inside.is_whole()
     }
 
     /// Counts for each channel the places, and the lines that say that it is empty or full.
@@ -262,33 +266,36 @@ impl Plan {
             ChannelNote::Full { c, .. } => (c, 0, 0, 1),
             _ => return,
         };
-        let place = c as usize;
-        if place < self.channels.len() {
-            let channel = &mut self.channels[place];
-            channel.count = channel.count.saturating_add(begun);
-            channel.empties = channel.empties.saturating_add(empties);
-            channel.fulls = channel.fulls.saturating_add(fulls);
-        }
+        let planned = self.channel(c);
+        put(
+            self.channels.as_mut(),
+            c as usize,
+            ChannelPlan {
+                count: planned.count.saturating_add(begun),
+                empties: planned.empties.saturating_add(empties),
+                fulls: planned.fulls.saturating_add(fulls),
+                ..planned
+            },
+        );
     }
 
     /// Gives each channel its places.
-    fn lay_out(&mut self) -> Result<(), Memory> {
+    fn lay_out(&mut self) {
         let mut c = 0u16;
         let mut from = 0u32;
-        for channel in self.channels.iter_mut() {
+        for channel in self.channels.as_mut().iter_mut() {
             channel.from = from;
             from = from.saturating_add(channel.count);
-            add_places(&mut self.places, c, channel)?;
+            add_places(&mut self.places, c, *channel);
             c = c.saturating_add(1);
         }
-        Ok(())
     }
 
     /// Counts the elements that come before each place.
     fn count_elements(&mut self) {
         let mut last = ChannelId::MAX;
         let mut before = 0u32;
-        for place in self.places.iter_mut() {
+        for place in self.places.as_mut().iter_mut() {
             if last != place.c {
                 before = 0;
             }
@@ -304,7 +311,7 @@ impl Plan {
     fn look_ahead(&mut self) {
         let mut last = ChannelId::MAX;
         let mut full = u32::MAX;
-        for place in self.places.iter_mut().rev() {
+        for place in self.places.as_mut().iter_mut().rev() {
             if last != place.c {
                 full = u32::MAX;
             }
@@ -316,68 +323,62 @@ impl Plan {
         }
     }
 
-    /// Reads the lines of all coroutines.
-    fn read_all(&mut self, alloc: Global, lines: &[Line], coroutines: u16) -> Result<(), Memory> {
-        let mut inside = Vec::new(alloc);
+    /// Reads the lines of all coroutines, each of which is inside its own Job at first.
+    fn read_all(&mut self, lines: &[Line], coroutines: u16, inside: &mut Gathered<Row>) {
         for tag in 0..coroutines {
             inside.clear();
-            inside.push(tag)?;
-            self.read(lines, tag, &mut inside)?;
+            inside.add(tag);
+            self.read(lines, tag, inside);
         }
-        Ok(())
     }
 
-    /// Reads the lines of one coroutine, which is inside its own Job at first.
-    fn read(&mut self, lines: &[Line], tag: Tag, inside: &mut Vec<Row>) -> Result<(), Memory> {
+    /// Reads the lines of one coroutine.
+    fn read(&mut self, lines: &[Line], tag: Tag, inside: &mut Gathered<Row>) {
         let mut last = NOT_WAITING;
         for number in 0..self.own_count(tag) {
             let place = self.line_of(tag, number) as usize;
             if place < lines.len() {
                 let item = lines[place].item;
                 let next = item_at(lines, self.line_of(tag, number.saturating_add(1)));
-                self.begin(item, next, &mut last);
-                put(&mut self.inner, place, last_of(inside.as_slice(), tag));
-                enter_or_leave(inside, item, tag)?;
+                self.begin(begun_by(item, next), &mut last);
+                put(self.inner.as_mut(), place, last_of(inside.as_slice(), tag));
+                enter_or_leave(inside, item, tag);
             }
         }
-        Ok(())
     }
 
     /// Notes how an item begins a place; `last` is the wait of the item before it, and the place that it began.
-    fn begin(&mut self, item: Item, next: Option<Item>, last: &mut Waiting) {
-        let Some((c, place)) = begun_by(item) else {
+    fn begin(&mut self, begun: Option<Begun>, last: &mut Waiting) {
+        let Some(begun) = begun else {
             *last = NOT_WAITING;
             return;
         };
-        let place_at = self.place_at(c, place);
+        let place_at = self.place_at(begun.c, begun.place);
         if place_at == NOWHERE {
             return;
         }
-        let wait = wait_of(item);
-        let mate = if last.is_of(wait) {
+        let mate = if last.is_of(begun.wait) {
             self.set_mate(last.at, place_at)
         } else {
             place_at
         };
-        *last = Waiting { wait, at: place_at };
-        let begins = beginning_of(item, next);
-        let planned = self.place(place_at);
-        put(
-            &mut self.places,
-            place_at as usize,
-            PlacePlan {
-                begins,
-                mate,
-                ..planned
-            },
-        );
+        *last = Waiting {
+            wait: begun.wait,
+            at: place_at,
+        };
+        let planned = PlacePlan {
+            begins: begun.begins,
+            mate,
+            ..self.place(place_at)
+        };
+        put(self.places.as_mut(), place_at as usize, planned);
     }
 
     /// Makes a place the next of the wait of another. The answer is the one that was next before.
     fn set_mate(&mut self, place: u32, mate: u32) -> u32 {
         let planned = self.place(place);
         put(
-            &mut self.places,
+            self.places.as_mut(),
             place as usize,
             PlacePlan { mate, ..planned },
         );
@@ -426,27 +427,6 @@ impl Plan {
         at(self.places.as_slice(), place_at as usize, NO_PLACE)
     }
 
-    /// The number of a place among all things that coroutines wait for: places, then channels, then Jobs.
-    pub(crate) fn thing_of_place(&self, place_at: u32) -> usize {
-        if place_at == NOWHERE {
-            UNKNOWN
-        } else {
-            place_at as usize
-        }
-    }
-
-    pub(crate) fn thing_of_channel(&self, c: ChannelId) -> usize {
-        self.places.len().saturating_add(c as usize)
-    }
-
-    pub(crate) fn thing_of_job(&self, row: Row) -> usize {
-        let channels = self.channels.len();
-        self.places
-            .len()
-            .saturating_add(channels)
-            .saturating_add(row as usize)
-    }
-
     /// The row of the Job that may not be Cancelling when a line is written that stands there; `NO_ROW`, if there is none.
     pub(crate) fn needs_calm(&self, item: Item, line: usize) -> Row {
         let Item::Channel(
@@ -487,7 +467,7 @@ fn item_at(lines: &[Line], line: u32) -> Option<Item> {
 }
 
 /// Keeps the scopes that a coroutine is inside, and its own Job below them.
-fn enter_or_leave(inside: &mut Vec<Row>, item: Item, tag: Tag) -> Result<(), Memory> {
+fn enter_or_leave(inside: &mut Gathered<Row>, item: Item, tag: Tag) {
     match item {
         Item::Job(
             JobNote::Made(
@@ -500,7 +480,7 @@ fn enter_or_leave(inside: &mut Vec<Row>, item: Item, tag: Tag) -> Result<(), Mem
             ),
         ) => {
             if kind.scoped && of == tag {
-                inside.push(row)?;
+                inside.add(row);
             }
         }
         Item::Job(JobNote::SawEnd { row, .. }) => {
@@ -510,5 +490,4 @@ fn enter_or_leave(inside: &mut Vec<Row>, item: Item, tag: Tag) -> Result<(), Mem
         }
         _ => {}
     }
-    Ok(())
 }

@@ -1,8 +1,9 @@
 //! What stands in the channels of a run, as its lines say. Nothing is claimed of it.
 
-use crate::plan::{Begins, NOWHERE, Plan};
-use crate::sleepers::UNKNOWN;
-use co_base::{ChannelId, Memory, Place, WaitId};
+use crate::plan::{Begins, ChannelPlan, NO_CHANNEL, NOWHERE, Plan};
+use crate::sleepers::{UNKNOWN, same_of};
+use channel_model::{Act, ChannelNote};
+use co_base::{ChannelId, Place, WaitId};
 use gathered::{Gathered, at, put};
 use std::alloc::Global;
 
@@ -11,15 +12,16 @@ const CLAUSES: u32 = 8;
 
 /// One channel.
 #[derive(Clone, Copy)]
-struct Queue {
-    /// How many places are begun, before which none stands, and how many stand.
+pub(crate) struct Queue {
+    planned: ChannelPlan,
+    /// How many places are begun; which of them is the first that stands, or `next`, if none does; and how many stand.
     next: u32,
     first: u32,
-    standing: u32,
-    closed: bool,
+    pub(crate) standing: u32,
+    pub(crate) closed: bool,
     /// How many lines are left that say that it is empty, and that it is full.
-    empties: u32,
-    fulls: u32,
+    pub(crate) empties: u32,
+    pub(crate) fulls: u32,
 }
 
 /// What happens to a channel.
@@ -60,14 +62,54 @@ impl Change {
     }
 }
 
+/// What a line tells of a channel: a place that is begun, or one of those that end with their wait.
+#[derive(Clone, Copy)]
+struct Told {
+    c: ChannelId,
+    place: Place,
+    step: Step,
+    /// Whether the place itself stays.
+    stays: bool,
+}
+
+/// What a line tells of a channel, if it tells of a change.
+fn told_by(note: ChannelNote) -> Option<Told> {
+    let (c, place, step, stays) = match note {
+        ChannelNote::Made(
+            Act::Put { c, place, .. } | Act::Offer { c, place, .. } | Act::Await { c, place, .. },
+        ) => (c, place, Step::Begun, false),
+        ChannelNote::Made(
+            Act::Hand { c, place, .. }
+            | Act::Take { c, place, .. }
+            | Act::Drop { c, place, .. }
+            | Act::Spurn { c, place, .. }
+            | Act::Drain { c, place, .. }
+            | Act::WakeClosed { c, place },
+        ) => (c, place, Step::Ended, false),
+        ChannelNote::Made(Act::Admit { c, place }) => (c, place, Step::Ended, true),
+        ChannelNote::Made(Act::Withdraw { w, .. }) => (w.channel, w.place, Step::Ended, false),
+        ChannelNote::Made(Act::Close { c, .. }) => (c, NOWHERE, Step::Closed, false),
+        ChannelNote::Empty { c } => (c, NOWHERE, Step::SaidEmpty, false),
+        ChannelNote::Full { c, .. } => (c, NOWHERE, Step::SaidFull, false),
+        _ => return None,
+    };
+    Some(Told {
+        c,
+        place,
+        step,
+        stays,
+    })
+}
+
 /// All channels.
 #[derive(Drop)]
 pub(crate) struct Queues {
-    queues: Vec<Queue>,
-    stands: Vec<bool>,
+    queues: Gathered<Queue>,
+    stands: Gathered<bool>,
 }
 
 const NO_QUEUE: Queue = Queue {
+    planned: NO_CHANNEL,
     next: 0,
     first: 0,
     standing: 0,
@@ -86,8 +128,33 @@ pub(crate) fn moved(number: u32, up: bool) -> u32 {
 }
 
 impl Queue {
-    /// Takes a change of the channel, of which a place has this number among its own.
-    fn take(&mut self, change: Change, place: u32, back: bool) {
+    /// The place that has this number among its own.
+    fn place(self, number: u32) -> u32 {
+        self.planned.from.saturating_add(number)
+    }
+
+    /// The first place that stands; `NOWHERE`, if none does.
+    fn first_place(self) -> u32 {
+        if self.first < self.next {
+            self.place(self.first)
+        } else {
+            NOWHERE
+        }
+    }
+
+    /// Whether an element that comes is one too many to be kept.
+    pub(crate) fn is_full(self) -> bool {
+        self.planned.keeps <= self.standing
+    }
+
+    /// Whether no line is left that needs it open.
+    pub(crate) fn may_close(self) -> bool {
+        let begun = self.next == self.planned.count;
+        !self.closed && begun && self.empties == 0 && self.fulls == 0
+    }
+
+    /// Takes a change of the channel.
+    fn take(&mut self, change: Change, back: bool) {
         match change.step {
             Step::Begun => {
                 self.standing = moved(self.standing, !back);
@@ -99,6 +166,7 @@ impl Queue {
             Step::SaidFull => self.fulls = moved(self.fulls, back),
         }
         if back && change.is_of_place() {
+            let place = change.at.saturating_sub(self.planned.from);
             self.first = self.first.min(place);
         }
     }
@@ -106,22 +174,29 @@ impl Queue {
 
 impl Queues {
     /// Before the first line.
-    pub(crate) fn new(alloc: Global, plan: &Plan) -> Result<Queues, Memory> {
-        let mut queues = Vec::new(alloc);
-        for channel in plan.channels.iter() {
-            queues.push(Queue {
+    pub(crate) fn new(alloc: Global, plan: &Plan) -> Queues {
+        let mut queues = Gathered::new(alloc);
+        for channel in plan.channels.as_slice() {
+            queues.add(Queue {
+                planned: *channel,
                 empties: channel.empties,
                 fulls: channel.fulls,
                 ..NO_QUEUE
-            })?;
+            });
         }
-        Ok(Queues {
+        Queues {
             queues,
-            stands: vec![in alloc; false; plan.places.len()]?,
-        })
+            stands: same_of(alloc, false, plan.places.len()),
+        }
     }
 
-    fn queue(&self, c: ChannelId) -> Queue {
+    /// Whether memory held them.
+    pub(crate) fn is_whole(&self) -> bool {
+        self.queues.is_whole() && self.stands.is_whole()
+    }
+
+    /// One of them.
+    pub(crate) fn of(&self, c: ChannelId) -> Queue {
         at(self.queues.as_slice(), c as usize, NO_QUEUE)
     }
 
@@ -129,77 +204,30 @@ impl Queues {
         at(self.stands.as_slice(), place as usize, false)
     }
 
-    pub(crate) fn is_closed(&self, c: ChannelId) -> bool {
-        self.queue(c).closed
-    }
-
-    /// The first place that stands in a channel; `NOWHERE`, if none does.
-    fn first(&mut self, plan: &Plan, c: ChannelId) -> u32 {
-        let queue = self.queue(c);
-        let from = plan.channel(c).from;
-        let mut first = queue.first;
-        for _ in queue.first..queue.next {
-            if self.stands_at(from.saturating_add(first)) {
-                break;
-            }
-            first = first.saturating_add(1);
-        }
-        put(&mut self.queues, c as usize, Queue { first, ..queue });
-        if first < queue.next {
-            from.saturating_add(first)
-        } else {
-            NOWHERE
-        }
-    }
-
     /// How the first place was begun that stands in a channel: all that stand there were begun by elements, or all by receivers.
-    pub(crate) fn front(&mut self, plan: &Plan, c: ChannelId) -> Begins {
-        let first = self.first(plan, c);
-        plan.place(first).begins
+    pub(crate) fn front(&self, plan: &Plan, c: ChannelId) -> Begins {
+        plan.place(self.of(c).first_place()).begins
     }
 
-    pub(crate) fn standing(&self, c: ChannelId) -> u32 {
-        self.queue(c).standing
-    }
-
-    /// Whether an element that comes to a channel is one too many to be kept.
-    pub(crate) fn is_full(&self, plan: &Plan, c: ChannelId) -> bool {
-        plan.channel(c).keeps <= self.queue(c).standing
-    }
-
-    /// Whether nothing can be received of a channel any more.
-    pub(crate) fn is_drained(&mut self, plan: &Plan, c: ChannelId) -> bool {
-        self.is_closed(c) && !self.front(plan, c).is_element()
-    }
-
-    /// Whether nothing can be received of an open channel.
-    pub(crate) fn is_empty(&mut self, plan: &Plan, c: ChannelId) -> bool {
-        !self.is_closed(c) && !self.front(plan, c).is_element()
+    /// Whether nothing can be received of a channel that is closed, or of one that is open.
+    pub(crate) fn is_empty(&self, plan: &Plan, c: ChannelId, closed: bool) -> bool {
+        self.of(c).closed == closed && !self.front(plan, c).is_element()
     }
 
     /// Whether an open channel has no room for an element, and no receiver.
-    pub(crate) fn has_no_room(&mut self, plan: &Plan, c: ChannelId) -> bool {
-        !self.is_closed(c) && self.is_full(plan, c) && !self.front(plan, c).is_receiver()
-    }
-
-    /// How many lines are left that say that a channel is empty.
-    pub(crate) fn empties(&self, c: ChannelId) -> u32 {
-        self.queue(c).empties
-    }
-
-    /// How many lines are left that say that a channel is full.
-    pub(crate) fn fulls(&self, c: ChannelId) -> u32 {
-        self.queue(c).fulls
+    pub(crate) fn has_no_room(&self, plan: &Plan, c: ChannelId) -> bool {
+        let queue = self.of(c);
+        !queue.closed && queue.is_full() && !self.front(plan, c).is_receiver()
     }
 
     /// Whether an element, or a receiver, may come to a place.
-    pub(crate) fn may_begin(&mut self, plan: &Plan, c: ChannelId, place: Place) -> bool {
-        let queue = self.queue(c);
+    pub(crate) fn may_begin(&self, plan: &Plan, c: ChannelId, place: Place) -> bool {
+        let queue = self.of(c);
         if queue.closed || queue.next != place {
             return false;
         }
-        let front = self.front(plan, c);
-        let full = self.is_full(plan, c);
+        let front = plan.place(queue.first_place()).begins;
+        let full = queue.is_full();
         match plan.place(plan.place_at(c, place)).begins {
             Begins::Receiver => !front.is_element(),
             Begins::WhenFull => !front.is_receiver() && full,
@@ -210,31 +238,33 @@ impl Queues {
 
     /// The number of what has to happen before a place can be begun.
     pub(crate) fn until_begun(&self, plan: &Plan, c: ChannelId, place: Place) -> usize {
-        if self.queue(c).next < place {
-            plan.thing_of_place(plan.place_at(c, place.saturating_sub(1)))
+        if self.of(c).next < place {
+            plan.things
+                .of_place(plan.place_at(c, place.saturating_sub(1)))
         } else {
-            plan.thing_of_channel(c)
+            plan.things.of_channel(c)
         }
     }
 
     /// The number of what has to happen before a place is the first of its channel.
-    pub(crate) fn until_first(&mut self, plan: &Plan, c: ChannelId, place: Place) -> usize {
+    pub(crate) fn until_first(&self, plan: &Plan, c: ChannelId, place: Place) -> usize {
         let place_at = plan.place_at(c, place);
-        let first = self.first(plan, c);
+        let queue = self.of(c);
+        let first = queue.first_place();
         if place_at == NOWHERE {
             UNKNOWN
-        } else if self.queue(c).next <= place {
-            plan.thing_of_place(place_at)
+        } else if queue.next <= place {
+            plan.things.of_place(place_at)
         } else if first == NOWHERE || first == place_at {
-            plan.thing_of_channel(c)
+            plan.things.of_channel(c)
         } else {
-            plan.thing_of_place(first)
+            plan.things.of_place(first)
         }
     }
 
     /// Whether this place, of an element or of a receiver, is the first of its channel, and may leave it with all of its wait.
     pub(crate) fn may_be_met(
-        &mut self,
+        &self,
         plan: &Plan,
         c: ChannelId,
         place: Place,
@@ -242,7 +272,7 @@ impl Queues {
     ) -> bool {
         let place_at = plan.place_at(c, place);
         place_at != NOWHERE
-            && self.first(plan, c) == place_at
+            && self.of(c).first_place() == place_at
             && plan.place(place_at).begins.is_receiver() == receiver
             && self.may_leave(plan, place_at)
     }
@@ -275,46 +305,72 @@ impl Queues {
     /// Whether no element may leave a channel before more come: for the first that is to come while it is full, as many have to stand as it
     /// keeps.
     fn is_needed(&self, plan: &Plan, c: ChannelId) -> bool {
-        let queue = self.queue(c);
-        let planned = plan.channel(c);
-        let next = plan.place(planned.from.saturating_add(queue.next));
+        let queue = self.of(c);
+        let next = plan.place(queue.place(queue.next));
         let ended = next.before.saturating_sub(queue.standing);
-        queue.next < planned.count
+        queue.next < queue.planned.count
             && next.before_full != u32::MAX
-            && ended.saturating_add(planned.keeps) >= next.before_full
-    }
-
-    /// Whether no line is left that needs a channel open.
-    pub(crate) fn may_close(&self, plan: &Plan, c: ChannelId) -> bool {
-        let queue = self.queue(c);
-        let count = plan.channel(c).count;
-        !queue.closed && queue.next == count && queue.empties == 0 && queue.fulls == 0
+            && ended.saturating_add(queue.planned.keeps) >= next.before_full
     }
 
     /// Makes a change, or takes it back.
-    pub(crate) fn change(&mut self, plan: &Plan, change: Change, back: bool) {
-        let c = change.c as usize;
+    pub(crate) fn change(&mut self, change: Change, back: bool) {
         if change.is_of_place() {
-            put(&mut self.stands, change.at as usize, change.stands(back));
+            put(
+                self.stands.as_mut(),
+                change.at as usize,
+                change.stands(back),
+            );
         }
-        if c < self.queues.len() {
-            let place = change.at.saturating_sub(plan.channel(change.c).from);
-            self.queues[c].take(change, place, back);
+        let mut queue = self.of(change.c);
+        queue.take(change, back);
+        queue.first = self.first_standing(queue);
+        put(self.queues.as_mut(), change.c as usize, queue);
+    }
+
+    /// Which place of a channel is the first that stands, from that on which was.
+    fn first_standing(&self, queue: Queue) -> u32 {
+        let mut first = queue.first;
+        for _ in queue.first..queue.next {
+            if self.stands_at(queue.place(first)) {
+                break;
+            }
+            first = first.saturating_add(1);
+        }
+        first
+    }
+
+    /// Adds the changes that a line makes.
+    pub(crate) fn add_changes(
+        &self,
+        plan: &Plan,
+        note: ChannelNote,
+        changes: &mut Gathered<Change>,
+    ) {
+        let Some(told) = told_by(note) else {
+            return;
+        };
+        let change = Change {
+            c: told.c,
+            at: plan.place_at(told.c, told.place),
+            step: told.step,
+        };
+        if matches!(change.step, Step::Ended) {
+            self.add_ends(plan, change.at, told.stays, changes);
+        } else if !change.is_of_place() || change.at != NOWHERE {
+            changes.add(change);
         }
     }
 
-    /// Adds the changes that end all places of a wait that stand, but the one that is kept.
-    pub(crate) fn add_ends(
-        &self,
-        plan: &Plan,
-        first: u32,
-        kept: u32,
-        changes: &mut Gathered<Change>,
-    ) {
+    /// Adds the changes that end all places of a wait that stand, of which this is one, which perhaps stays.
+    fn add_ends(&self, plan: &Plan, first: u32, stays: bool, changes: &mut Gathered<Change>) {
+        if first == NOWHERE {
+            return;
+        }
         let mut place_at = first;
         for _ in 0..CLAUSES {
             let place = plan.place(place_at);
-            if place_at != kept && self.stands_at(place_at) {
+            if self.stands_at(place_at) && !(stays && place_at == first) {
                 changes.add(Change {
                     c: place.c,
                     at: place_at,

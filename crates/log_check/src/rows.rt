@@ -2,10 +2,12 @@
 
 use crate::plan::Plan;
 use crate::queues::moved;
-use co_base::{Memory, Row};
-use gathered::{at, put};
+use crate::sleepers::same_of;
+use co_base::Row;
+use gathered::{Gathered, at, put};
 use history_text::Line;
-use job_model::JobAct;
+use job_model::{JobAct, JobNote};
+use note_book::Item;
 use script_reader::Script;
 use std::alloc::Global;
 
@@ -14,15 +16,16 @@ pub(crate) const NO_ROW: Row = Row::MAX;
 
 /// One Job.
 #[derive(Clone, Copy)]
-struct JobSeen {
-    parent: Row,
+pub(crate) struct JobSeen {
+    /// The row of its parent; `NO_ROW`, if there is none.
+    pub(crate) parent: Row,
     /// How many of its children were not told to be gone, and how many may still be cancelled.
-    living: u32,
-    calm: u32,
+    pub(crate) living: u32,
+    pub(crate) calm: u32,
     attached: bool,
-    body_ended: bool,
-    cancelling: bool,
-    ended: bool,
+    pub(crate) body_ended: bool,
+    pub(crate) cancelling: bool,
+    pub(crate) ended: bool,
     /// How many lines are left that need that it is not Cancelling.
     needs_calm: u32,
 }
@@ -50,6 +53,13 @@ pub(crate) struct JobChange {
     pub(crate) parent: Row,
     pub(crate) step: JobStep,
 }
+
+/// No change: there is no such row.
+const NO_JOB_CHANGE: JobChange = JobChange {
+    row: NO_ROW,
+    parent: NO_ROW,
+    step: JobStep::Gone,
+};
 
 impl JobChange {
     /// Whether it is told to those who wait for something to happen to the Job.
@@ -105,7 +115,7 @@ impl JobSeen {
 /// All Jobs.
 #[derive(Drop)]
 pub(crate) struct Rows {
-    rows: Vec<JobSeen>,
+    rows: Gathered<JobSeen>,
     /// How many coroutines there are, behind whose rows come those of scopes.
     coroutines: u16,
 }
@@ -128,19 +138,19 @@ const ROOT: JobSeen = JobSeen {
 
 impl Rows {
     /// Before the first line.
-    pub(crate) fn new(
-        alloc: Global,
-        plan: &Plan,
-        script: &Script,
-        lines: &[Line],
-    ) -> Result<Rows, Memory> {
+    pub(crate) fn new(alloc: Global, plan: &Plan, script: &Script, lines: &[Line]) -> Rows {
         let mut rows = Rows {
-            rows: vec![in alloc; NO_JOB; script.jobs() as usize]?,
+            rows: same_of(alloc, NO_JOB, script.jobs() as usize),
             coroutines: script.coroutines(),
         };
-        put(&mut rows.rows, 0, ROOT);
+        put(rows.rows.as_mut(), 0, ROOT);
         rows.count_calm(plan, lines);
-        Ok(rows)
+        rows
+    }
+
+    /// Whether memory held them.
+    pub(crate) fn is_whole(&self) -> bool {
+        self.rows.is_whole()
     }
 
     /// Counts for each Job the lines that need that it is not Cancelling.
@@ -153,48 +163,21 @@ impl Rows {
         }
     }
 
-    fn row(&self, row: Row) -> JobSeen {
+    /// One of them.
+    pub(crate) fn of(&self, row: Row) -> JobSeen {
         at(self.rows.as_slice(), row as usize, NO_JOB)
-    }
-
-    pub(crate) fn is_cancelling(&self, row: Row) -> bool {
-        self.row(row).cancelling
-    }
-
-    pub(crate) fn has_ended(&self, row: Row) -> bool {
-        self.row(row).ended
-    }
-
-    pub(crate) fn has_ended_body(&self, row: Row) -> bool {
-        self.row(row).body_ended
-    }
-
-    /// The row of its parent; `NO_ROW`, if there is none.
-    pub(crate) fn parent(&self, row: Row) -> Row {
-        self.row(row).parent
     }
 
     /// Whether a row may be attached: those of scopes are given out in their order.
     pub(crate) fn may_attach(&self, row: Row) -> bool {
         let first = self.coroutines;
         row < first
-            || (!self.row(row).attached
-                && (row == first || self.row(row.saturating_sub(1)).attached))
-    }
-
-    /// How many of its children live.
-    pub(crate) fn living(&self, row: Row) -> u32 {
-        self.row(row).living
-    }
-
-    /// How many children of a row may still be cancelled.
-    pub(crate) fn calm(&self, row: Row) -> u32 {
-        self.row(row).calm
+            || (!self.of(row).attached && (row == first || self.of(row.saturating_sub(1)).attached))
     }
 
     /// Whether a row may be cancelled, and no line is left that needs that it is not.
     pub(crate) fn may_cancel(&self, row: Row) -> bool {
-        let job = self.row(row);
+        let job = self.of(row);
         job.attached && !job.ended && !job.cancelling && job.needs_calm == 0
     }
 
@@ -202,38 +185,44 @@ impl Rows {
     pub(crate) fn change_of(&self, row: Row, step: JobStep) -> JobChange {
         JobChange {
             row,
-            parent: self.parent(row),
+            parent: self.of(row).parent,
             step,
         }
     }
 
-    /// The change that an act makes, if one is kept of it.
-    pub(crate) fn change_by(&self, act: JobAct) -> Option<JobChange> {
-        match act {
+    /// The change that a line makes; `NO_JOB_CHANGE`, if it makes none.
+    pub(crate) fn change_by(&self, item: Item) -> JobChange {
+        let Item::Job(JobNote::Made(act)) = item else {
+            return NO_JOB_CHANGE;
+        };
+        let (row, step) = match act {
             JobAct::Attach {
                 parent,
                 row,
                 cancelled,
                 ..
-            } => Some(JobChange {
-                row,
-                parent,
-                step: if cancelled {
-                    JobStep::AttachedCancelling
-                } else {
-                    JobStep::Attached
-                },
-            }),
-            JobAct::EndBody { row, .. } => Some(self.change_of(row, JobStep::BodyEnded)),
-            JobAct::Cancel { row, .. } => Some(self.change_of(row, JobStep::Cancelled)),
-            JobAct::Finish { row, .. } => Some(self.change_of(row, self.finished(row))),
-            JobAct::Gone { row } => Some(self.change_of(row, JobStep::Gone)),
-            JobAct::Start { .. } => None,
-        }
+            } => {
+                return JobChange {
+                    row,
+                    parent,
+                    step: if cancelled {
+                        JobStep::AttachedCancelling
+                    } else {
+                        JobStep::Attached
+                    },
+                };
+            }
+            JobAct::EndBody { row, .. } => (row, JobStep::BodyEnded),
+            JobAct::Cancel { row, .. } => (row, JobStep::Cancelled),
+            JobAct::Finish { row, .. } => (row, self.finished(row)),
+            JobAct::Gone { row } => (row, JobStep::Gone),
+            JobAct::Start { .. } => return NO_JOB_CHANGE,
+        };
+        self.change_of(row, step)
     }
 
     fn finished(&self, row: Row) -> JobStep {
-        if self.is_cancelling(row) {
+        if self.of(row).cancelling {
             JobStep::FinishedCancelling
         } else {
             JobStep::Finished
@@ -242,13 +231,11 @@ impl Rows {
 
     /// Makes a change, or takes it back.
     pub(crate) fn change(&mut self, change: JobChange, back: bool) {
-        let row = change.row as usize;
-        if row < self.rows.len() {
-            self.rows[row].take(change, back);
-        }
-        let parent = change.parent as usize;
-        if parent < self.rows.len() {
-            self.rows[parent].count(change.step, back);
-        }
+        let mut job = self.of(change.row);
+        job.take(change, back);
+        put(self.rows.as_mut(), change.row as usize, job);
+        let mut parent = self.of(change.parent);
+        parent.count(change.step, back);
+        put(self.rows.as_mut(), change.parent as usize, parent);
     }
 }

@@ -3,11 +3,11 @@
 
 use crate::plan::{NOWHERE, Plan};
 use crate::polled::written_by;
-use crate::queues::{Change, NO_CHANGE, Queues, Step};
+use crate::queues::{Change, NO_CHANGE, Queues};
 use crate::rows::{JobChange, JobStep, NO_ROW, Rows};
-use crate::sleepers::{Sleepers, UNKNOWN};
+use crate::sleepers::{Sleepers, Things, UNKNOWN};
 use channel_model::{Act, ChannelNote, Settled};
-use co_base::{ChannelId, Memory, Place, Row, Tag, WaitId};
+use co_base::{ChannelId, Row, Tag, WaitId};
 use engine_one::Trial;
 use gathered::{Gathered, at};
 use history_text::Line;
@@ -32,11 +32,17 @@ pub(crate) enum Rank {
     Never,
 }
 
+/// Channels and Jobs.
+#[derive(Drop)]
+pub(crate) struct State {
+    queues: Queues,
+    rows: Rows,
+}
+
 /// Channels and Jobs, and what is to be taken back.
 #[derive(Drop)]
 pub(crate) struct Scene {
-    queues: Queues,
-    rows: Rows,
+    pub(crate) state: State,
     sleepers: Sleepers,
     changes: Gathered<Change>,
     job_changes: Gathered<JobChange>,
@@ -133,7 +139,7 @@ fn met_at_close(view: View, tag: Tag, number: usize, channel: ChannelId) -> AtCl
 }
 
 /// The number of what a coroutine waits for whose next line is this answer of a call.
-fn until_note(plan: &Plan, note: ChannelNote) -> usize {
+fn until_note(things: Things, note: ChannelNote) -> usize {
     match note {
         ChannelNote::SendClosed { c, .. }
         | ChannelNote::TrySendClosed { c, .. }
@@ -141,58 +147,16 @@ fn until_note(plan: &Plan, note: ChannelNote) -> usize {
         | ChannelNote::TryReceiveClosed { c, .. }
         | ChannelNote::AlreadyClosed { c, .. }
         | ChannelNote::Full { c, .. }
-        | ChannelNote::Empty { c } => plan.thing_of_channel(c),
+        | ChannelNote::Empty { c } => things.of_channel(c),
         _ => UNKNOWN,
     }
 }
 
-/// A place whose wait is ended, with all other places that were begun for it.
-#[derive(Clone, Copy)]
-struct Ends {
-    c: ChannelId,
-    place: Place,
-    /// Whether the place itself stays.
-    stays: bool,
-}
-
-/// The place whose wait an act ends, if it ends one.
-fn ended_by(act: Act) -> Option<Ends> {
-    let (c, place, stays) = match act {
-        Act::Hand { c, place, .. }
-        | Act::Take { c, place, .. }
-        | Act::Drop { c, place, .. }
-        | Act::Spurn { c, place, .. }
-        | Act::Drain { c, place, .. }
-        | Act::WakeClosed { c, place } => (c, place, false),
-        Act::Admit { c, place } => (c, place, true),
-        Act::Withdraw { w, .. } => (w.channel, w.place, false),
-        _ => return None,
-    };
-    Some(Ends { c, place, stays })
-}
-
-impl Scene {
-    /// Before the first line.
-    pub(crate) fn new(
-        alloc: Global,
-        plan: &Plan,
-        script: &Script,
-        lines: &[Line],
-    ) -> Result<Scene, Memory> {
-        Ok(Scene {
-            queues: Queues::new(alloc, plan)?,
-            rows: Rows::new(alloc, plan, script, lines)?,
-            sleepers: Sleepers::new(alloc, plan, script)?,
-            changes: Gathered::new(alloc),
-            job_changes: Gathered::new(alloc),
-            marks: Gathered::new(alloc),
-        })
-    }
-
+impl State {
     // ---- which line may come
 
     /// How soon a coroutine is to be polled that has written so many of its lines.
-    pub(crate) fn rank(&mut self, view: View, tag: Tag, number: usize) -> Rank {
+    pub(crate) fn rank(&self, view: View, tag: Tag, number: usize) -> Rank {
         match view.item(tag, number) {
             Some(Item::Channel(note)) => self.rank_of_note(view, tag, number, note),
             Some(Item::Job(note)) => self.rank_of_job(view, tag, number, note),
@@ -200,10 +164,10 @@ impl Scene {
         }
     }
 
-    fn rank_of_note(&mut self, view: View, tag: Tag, number: usize, note: ChannelNote) -> Rank {
+    fn rank_of_note(&self, view: View, tag: Tag, number: usize, note: ChannelNote) -> Rank {
         if !self.note_may_come(view, tag, number, note) {
             Rank::Never
-        } else if self.is_held(view.plan, note) || !self.select_may_come(view, tag, number, note) {
+        } else if self.is_held(note) || !self.select_may_come(view, tag, number, note) {
             Rank::Held
         } else {
             Rank::Now
@@ -211,7 +175,7 @@ impl Scene {
     }
 
     /// Whether the lines behind this one may come with it, if they are those of one select.
-    fn select_may_come(&mut self, view: View, tag: Tag, first: usize, note: ChannelNote) -> bool {
+    fn select_may_come(&self, view: View, tag: Tag, first: usize, note: ChannelNote) -> bool {
         let mut note = note;
         let mut number = first;
         for _ in 1..CLAUSES {
@@ -232,16 +196,16 @@ impl Scene {
     }
 
     /// Whether a line may come that is of a channel.
-    fn note_may_come(&mut self, view: View, tag: Tag, number: usize, note: ChannelNote) -> bool {
+    fn note_may_come(&self, view: View, tag: Tag, number: usize, note: ChannelNote) -> bool {
         match note {
             ChannelNote::Made(act) => self.act_may_come(view, tag, number, act),
             ChannelNote::SendClosed { c, .. }
             | ChannelNote::TrySendClosed { c, .. }
-            | ChannelNote::AlreadyClosed { c, .. } => self.queues.is_closed(c),
+            | ChannelNote::AlreadyClosed { c, .. } => self.queues.of(c).closed,
             ChannelNote::ReceiveClosed { c, .. } | ChannelNote::TryReceiveClosed { c, .. } => {
-                self.queues.is_drained(view.plan, c)
+                self.queues.is_empty(view.plan, c, true)
             }
-            ChannelNote::Empty { c } => self.queues.is_empty(view.plan, c),
+            ChannelNote::Empty { c } => self.queues.is_empty(view.plan, c, false),
             ChannelNote::Full { c, .. } => self.queues.has_no_room(view.plan, c),
             ChannelNote::Spent { .. } => true,
             ChannelNote::Partner { .. }
@@ -250,7 +214,7 @@ impl Scene {
         }
     }
 
-    fn act_may_come(&mut self, view: View, tag: Tag, number: usize, act: Act) -> bool {
+    fn act_may_come(&self, view: View, tag: Tag, number: usize, act: Act) -> bool {
         let plan = view.plan;
         match act {
             Act::Put { c, place, .. } | Act::Offer { c, place, .. } | Act::Await { c, place, .. } =>
@@ -269,13 +233,14 @@ impl Scene {
     }
 
     /// Whether a channel may be closed: as many receivers are told, or elements discarded, as stand there.
-    fn may_close(&mut self, view: View, tag: Tag, number: usize, c: ChannelId) -> bool {
-        if !self.queues.may_close(view.plan, c) {
+    fn may_close(&self, view: View, tag: Tag, number: usize, c: ChannelId) -> bool {
+        let queue = self.queues.of(c);
+        if !queue.may_close() {
             return false;
         }
         let front = self.queues.front(view.plan, c);
         let met = met_at_close(view, tag, number, c);
-        let standing = self.queues.standing(c);
+        let standing = queue.standing;
         (!front.is_receiver() || met.told == standing)
             && (!front.is_element() || !met.voided || met.drained == standing)
     }
@@ -287,7 +252,7 @@ impl Scene {
         } else {
             view.plan.inner_of(line as usize)
         };
-        let cancelling = self.rows.is_cancelling(row);
+        let cancelling = self.rows.of(row).cancelling;
         let leaves = w.channel == view.plan.done_channel(row);
         match outcome {
             Settled::Cancelled => true,
@@ -299,13 +264,15 @@ impl Scene {
     }
 
     /// Whether another line is left that may come now, but not after this one.
-    fn is_held(&self, plan: &Plan, note: ChannelNote) -> bool {
+    fn is_held(&self, note: ChannelNote) -> bool {
         match note {
             ChannelNote::Made(Act::Put { c, .. } | Act::Offer { c, .. }) => {
-                self.queues.empties(c) > 0 && self.queues.standing(c) == 0
+                let queue = self.queues.of(c);
+                queue.empties > 0 && queue.standing == 0
             }
             ChannelNote::Made(Act::Await { c, .. } | Act::Take { c, .. }) => {
-                self.queues.fulls(c) > 0 && self.queues.is_full(plan, c)
+                let queue = self.queues.of(c);
+                queue.fulls > 0 && queue.is_full()
             }
             _ => false,
         }
@@ -314,9 +281,9 @@ impl Scene {
     fn rank_of_job(&self, view: View, tag: Tag, number: usize, note: JobNote) -> Rank {
         match note {
             JobNote::Saw { row } => {
-                rank_if(self.rows.is_cancelling(row) && self.may_give_up(view, tag, number))
+                rank_if(self.rows.of(row).cancelling && self.may_give_up(view, tag, number))
             }
-            JobNote::SawEnd { row, .. } => rank_if(self.rows.has_ended(row)),
+            JobNote::SawEnd { row, .. } => rank_if(self.rows.of(row).ended),
             JobNote::Made(act) => self.rank_of_act(view, tag, number, act),
             _ => Rank::Now,
         }
@@ -329,7 +296,7 @@ impl Scene {
                 row,
                 cancelled,
                 ..
-            } => rank_if(self.rows.is_cancelling(parent) == cancelled && self.rows.may_attach(row)),
+            } => rank_if(self.rows.of(parent).cancelling == cancelled && self.rows.may_attach(row)),
             JobAct::EndBody { row, .. } => {
                 rank_if(self.end_waits_for(view, tag, number, row) == UNKNOWN)
             }
@@ -368,7 +335,7 @@ impl Scene {
                 return false;
             }
             count = count.saturating_add(1);
-            below = below.saturating_add(self.rows.calm(row));
+            below = below.saturating_add(self.rows.of(row).calm);
         }
         below.saturating_add(1) == count
     }
@@ -377,22 +344,23 @@ impl Scene {
     /// with the last of its children and its body.
     fn end_waits_for(&self, view: View, tag: Tag, number: usize, first: Row) -> usize {
         let mut row = first;
-        let mut is_last = self.rows.living(row) == 0;
+        let mut is_last = self.rows.of(row).living == 0;
         let mut next = number.saturating_add(1);
         for _ in number..view.plan.own_count(tag) {
             if !self.may_go_on(row, is_last, view.item(tag, next)) {
-                return view.plan.thing_of_job(row);
+                return view.plan.things.of_job(row);
             }
-            let parent = self.rows.parent(row);
+            let parent = self.rows.of(row).parent;
             if !is_last || parent == NO_ROW {
                 break;
             }
             let Some(behind) = self.after_finish(view, tag, next, row) else {
-                return view.plan.thing_of_channel(view.plan.done_channel(row));
+                return view.plan.things.of_channel(view.plan.done_channel(row));
             };
             next = behind;
             row = parent;
-            is_last = self.rows.living(row) < 2 && self.rows.has_ended_body(row);
+            let job = self.rows.of(row);
+            is_last = job.living < 2 && job.body_ended;
         }
         UNKNOWN
     }
@@ -402,7 +370,7 @@ impl Scene {
         match item {
             Some(Item::Job(JobNote::Made(JobAct::Finish { row: of, end }))) => {
                 let cancelled = matches!(end, End::Cancelled(_));
-                is_last && of == row && cancelled == self.rows.is_cancelling(row)
+                is_last && of == row && cancelled == self.rows.of(row).cancelling
             }
             _ => !is_last,
         }
@@ -413,7 +381,8 @@ impl Scene {
         let close = number.saturating_add(1);
         let c = view.plan.done_channel(row);
         let told = met_at_close(view, tag, close, c).told;
-        if self.queues.may_close(view.plan, c) && told == self.queues.standing(c) {
+        let queue = self.queues.of(c);
+        if queue.may_close() && told == queue.standing {
             Some(close.saturating_add(2).saturating_add(told as usize))
         } else {
             None
@@ -423,10 +392,10 @@ impl Scene {
     // ---- who is worth a look
 
     /// The number of what a coroutine waits for whose line may not come.
-    fn until(&mut self, view: View, tag: Tag, number: usize) -> usize {
+    fn until(&self, view: View, tag: Tag, number: usize) -> usize {
         match view.item(tag, number) {
             Some(Item::Channel(ChannelNote::Made(act))) => self.until_act(view, act),
-            Some(Item::Channel(note)) => until_note(view.plan, note),
+            Some(Item::Channel(note)) => until_note(view.plan.things, note),
             Some(Item::Job(note)) => self.until_job(view, tag, number, note),
             None => UNKNOWN,
         }
@@ -447,10 +416,10 @@ impl Scene {
             }
             _ => return UNKNOWN,
         };
-        view.plan.thing_of_job(row)
+        view.plan.things.of_job(row)
     }
 
-    fn until_act(&mut self, view: View, act: Act) -> usize {
+    fn until_act(&self, view: View, act: Act) -> usize {
         let plan = view.plan;
         match act {
             Act::Put { c, place, .. } | Act::Offer { c, place, .. } | Act::Await { c, place, .. } =>
@@ -459,10 +428,37 @@ impl Scene {
                 self.queues.until_first(plan, c, place)
             }
             Act::Settle { w, .. } if !view.is_resolved(w) => {
-                plan.thing_of_place(plan.place_at(w.channel, w.place))
+                plan.things.of_place(plan.place_at(w.channel, w.place))
             }
-            Act::Close { c, .. } => plan.thing_of_channel(c),
+            Act::Close { c, .. } => plan.things.of_channel(c),
             _ => UNKNOWN,
+        }
+    }
+
+    /// How soon a coroutine is to be polled, and the number of what has to happen before, if its line may not come.
+    fn look(&self, view: View, tag: Tag) -> (Rank, usize) {
+        let number = written_by(view.trial, tag);
+        let rank = self.rank(view, tag, number);
+        if rank == Rank::Never {
+            (rank, self.until(view, tag, number))
+        } else {
+            (rank, UNKNOWN)
+        }
+    }
+}
+
+impl Scene {
+    /// Before the first line.
+    pub(crate) fn new(alloc: Global, plan: &Plan, script: &Script, lines: &[Line]) -> Scene {
+        Scene {
+            state: State {
+                queues: Queues::new(alloc, plan),
+                rows: Rows::new(alloc, plan, script, lines),
+            },
+            sleepers: Sleepers::new(alloc, plan, script),
+            changes: Gathered::new(alloc),
+            job_changes: Gathered::new(alloc),
+            marks: Gathered::new(alloc),
         }
     }
 
@@ -470,15 +466,11 @@ impl Scene {
     pub(crate) fn next_awake(&mut self, view: View) -> Option<Tag> {
         for _ in 0..self.sleepers.awake_count() {
             let tag = self.sleepers.next()?;
-            let number = written_by(view.trial, tag);
-            match self.rank(view, tag, number) {
-                Rank::Now => return Some(tag),
-                Rank::Never => {
-                    let until = self.until(view, tag, number);
-                    self.sleepers.sleep(tag, until);
-                }
-                Rank::Held | Rank::Cancels => {}
+            let (rank, until) = self.state.look(view, tag);
+            if rank == Rank::Now {
+                return Some(tag);
             }
+            self.sleepers.sleep(tag, until);
         }
         None
     }
@@ -490,89 +482,62 @@ impl Scene {
 
     // ---- what was written
 
+    /// The lines of a coroutine were written that have these numbers among its own, up to the second.
+    pub(crate) fn keep_lines(
+        &mut self,
+        plan: &Plan,
+        lines: &[Line],
+        tag: Tag,
+        from: usize,
+        to: usize,
+    ) {
+        for number in from..to {
+            let line = plan.line_of(tag, number) as usize;
+            if line < lines.len() {
+                self.keep(plan, lines[line].item, line);
+            }
+        }
+    }
+
     /// A line was written.
-    pub(crate) fn keep(&mut self, plan: &Plan, item: Item, line: usize) {
+    fn keep(&mut self, plan: &Plan, item: Item, line: usize) {
         let from = self.changes.len();
-        match item {
-            Item::Channel(note) => self.add_changes(plan, note),
-            Item::Job(JobNote::Made(act)) => self.keep_act(plan, act),
-            Item::Job(_) => {}
+        if let Item::Channel(note) = item {
+            self.state.queues.add_changes(plan, note, &mut self.changes);
         }
+        let act = self.state.rows.change_by(item);
+        let calm = self
+            .state
+            .rows
+            .change_of(plan.needs_calm(item, line), JobStep::WasCalm);
+        let things = plan.things;
+        self.make_changes(things, from);
+        self.keep_job(things, act);
+        self.keep_job(things, calm);
+    }
+
+    /// Makes the changes of channels from this number on.
+    fn make_changes(&mut self, things: Things, from: usize) {
         for number in from..self.changes.len() {
-            self.change(plan, number);
-        }
-        let row = plan.needs_calm(item, line);
-        if row != NO_ROW {
-            let change = self.rows.change_of(row, JobStep::WasCalm);
-            self.keep_job(plan, change);
+            let change = at(self.changes.as_slice(), number, NO_CHANGE);
+            self.state.queues.change(change, false);
+            self.sleepers.wake(things.of_place(change.at));
+            self.sleepers.wake(things.of_channel(change.c));
         }
     }
 
-    /// Makes the change of a channel that has this number.
-    fn change(&mut self, plan: &Plan, number: usize) {
-        let change = at(self.changes.as_slice(), number, NO_CHANGE);
-        self.queues.change(plan, change, false);
-        if change.is_of_place() {
-            self.sleepers.wake(plan.thing_of_place(change.at));
+    /// Makes the change of a Job, if it is one.
+    fn keep_job(&mut self, things: Things, change: JobChange) {
+        if change.row == NO_ROW {
+            return;
         }
-        self.sleepers.wake(plan.thing_of_channel(change.c));
-    }
-
-    fn keep_act(&mut self, plan: &Plan, act: JobAct) {
-        if let Some(change) = self.rows.change_by(act) {
-            self.keep_job(plan, change);
-        }
-    }
-
-    /// Makes the change of a Job.
-    fn keep_job(&mut self, plan: &Plan, change: JobChange) {
         self.job_changes.add(change);
-        self.rows.change(change, false);
+        self.state.rows.change(change, false);
         if change.is_of_row() {
-            self.sleepers.wake(plan.thing_of_job(change.row));
+            self.sleepers.wake(things.of_job(change.row));
         }
         if change.is_of_parent() {
-            self.sleepers.wake(plan.thing_of_job(change.parent));
-        }
-    }
-
-    /// Adds what a line changes that is of a channel.
-    fn add_changes(&mut self, plan: &Plan, note: ChannelNote) {
-        match note {
-            ChannelNote::Made(act) => self.add_by_act(plan, act),
-            ChannelNote::Empty { c } => self.add(c, NOWHERE, Step::SaidEmpty),
-            ChannelNote::Full { c, .. } => self.add(c, NOWHERE, Step::SaidFull),
-            _ => {}
-        }
-    }
-
-    fn add(&mut self, c: ChannelId, at: u32, step: Step) {
-        self.changes.add(Change { c, at, step });
-    }
-
-    fn add_by_act(&mut self, plan: &Plan, act: Act) {
-        match act {
-            Act::Put { c, place, .. } | Act::Offer { c, place, .. } | Act::Await { c, place, .. } =>
-                {
-                    let place_at = plan.place_at(c, place);
-                    if place_at != NOWHERE {
-                        self.add(c, place_at, Step::Begun);
-                    }
-                }
-            Act::Close { c, .. } => self.add(c, NOWHERE, Step::Closed),
-            _ => self.add_ends(plan, act),
-        }
-    }
-
-    /// Adds the ends of all places of the wait that an act ends, if it ends one.
-    fn add_ends(&mut self, plan: &Plan, act: Act) {
-        let Some(ends) = ended_by(act) else {
-            return;
-        };
-        let first = plan.place_at(ends.c, ends.place);
-        let kept = if ends.stays { first } else { NOWHERE };
-        if first != NOWHERE {
-            self.queues.add_ends(plan, first, kept, &mut self.changes);
+            self.sleepers.wake(things.of_job(change.parent));
         }
     }
 
@@ -583,25 +548,25 @@ impl Scene {
 
     /// Whether memory held all that was kept.
     pub(crate) fn is_whole(&self) -> bool {
-        let sleepers = self.sleepers.is_whole();
+        let state = self.state.queues.is_whole() && self.state.rows.is_whole();
         let changes = self.changes.is_whole() && self.job_changes.is_whole();
-        sleepers && changes && self.marks.is_whole()
+        state && changes && self.sleepers.is_whole() && self.marks.is_whole()
     }
 
     /// Takes the last poll back.
-    pub(crate) fn take_back(&mut self, plan: &Plan) {
+    pub(crate) fn take_back(&mut self) {
         let _last = self.marks.pop();
         self.sleepers.forget();
         let last = self.marks.len().saturating_sub(1);
         let (changes, job_changes) = at(self.marks.as_slice(), last, (0, 0));
         for _ in changes..self.changes.len() {
             if let Some(change) = self.changes.pop() {
-                self.queues.change(plan, change, true);
+                self.state.queues.change(change, true);
             }
         }
         for _ in job_changes..self.job_changes.len() {
             if let Some(change) = self.job_changes.pop() {
-                self.rows.change(change, true);
+                self.state.rows.change(change, true);
             }
         }
     }

@@ -1,14 +1,47 @@
 //! Coroutines of which nothing is to be expected before something happens at a place, a channel or a Job. Nothing is claimed of it.
 
-use crate::plan::Plan;
-use co_base::{Memory, Tag};
-use gathered::{at, put};
+use crate::plan::{NOWHERE, Plan};
+use co_base::{ChannelId, Row, Tag};
+use gathered::{Gathered, at, put};
 use script_reader::Script;
 use std::alloc::Global;
 use std::collections::VecDeque;
 
-/// The number of what a coroutine waits for, if that is not known: `Plan` numbers places, channels and Jobs.
+/// The number of what a coroutine waits for, if that is not known.
 pub(crate) const UNKNOWN: usize = usize::MAX;
+
+/// How many places and channels there are: of the things that coroutines wait for places have the first numbers, then channels, then Jobs.
+#[derive(Clone, Copy)]
+pub(crate) struct Things {
+    pub(crate) places: usize,
+    pub(crate) channels: usize,
+}
+
+pub(crate) const NO_THINGS: Things = Things {
+    places: 0,
+    channels: 0,
+};
+
+impl Things {
+    /// The number of a place.
+    pub(crate) fn of_place(self, place_at: u32) -> usize {
+        if place_at == NOWHERE {
+            UNKNOWN
+        } else {
+            place_at as usize
+        }
+    }
+
+    pub(crate) fn of_channel(self, c: ChannelId) -> usize {
+        self.places.saturating_add(c as usize)
+    }
+
+    pub(crate) fn of_job(self, row: Row) -> usize {
+        self.places
+            .saturating_add(self.channels)
+            .saturating_add(row as usize)
+    }
+}
 
 /// No coroutine.
 const NONE: Tag = Tag::MAX;
@@ -17,9 +50,9 @@ const NONE: Tag = Tag::MAX;
 #[derive(Drop)]
 pub(crate) struct Sleepers {
     /// The first that sleeps for each thing, by its number; and of each the next.
-    heads: Vec<Tag>,
-    nexts: Vec<Tag>,
-    asleep: Vec<bool>,
+    heads: Gathered<Tag>,
+    nexts: Gathered<Tag>,
+    asleep: Gathered<bool>,
     awake: VecDeque<Tag>,
     /// Whether memory ran out as one was woken.
     full: bool,
@@ -27,16 +60,19 @@ pub(crate) struct Sleepers {
 
 impl Sleepers {
     /// All are awake.
-    pub(crate) fn new(alloc: Global, plan: &Plan, script: &Script) -> Result<Sleepers, Memory> {
+    pub(crate) fn new(alloc: Global, plan: &Plan, script: &Script) -> Sleepers {
         let count = script.coroutines() as usize;
-        let things = plan.thing_of_job(script.jobs());
-        Ok(Sleepers {
-            heads: vec![in alloc; NONE; things]?,
-            nexts: vec![in alloc; NONE; count]?,
-            asleep: vec![in alloc; false; count]?,
-            awake: all_tags(alloc, script.coroutines())?,
+        let mut sleepers = Sleepers {
+            heads: same_of(alloc, NONE, plan.things.of_job(script.jobs())),
+            nexts: same_of(alloc, NONE, count),
+            asleep: same_of(alloc, false, count),
+            awake: VecDeque::new(alloc),
             full: false,
-        })
+        };
+        for tag in 0..script.coroutines() {
+            sleepers.look_at_last(tag);
+        }
+        sleepers
     }
 
     /// How many are to be looked at.
@@ -64,30 +100,35 @@ impl Sleepers {
         }
     }
 
-    /// Whether memory held all that were to be looked at.
+    /// Whether memory held all, and those that were to be looked at.
     pub(crate) fn is_whole(&self) -> bool {
-        !self.full
+        let lists = self.heads.is_whole() && self.nexts.is_whole() && self.asleep.is_whole();
+        lists && !self.full
     }
 
     /// A coroutine sleeps until something happens to this thing.
     pub(crate) fn sleep(&mut self, tag: Tag, thing: usize) {
         let own = tag as usize;
         if thing < self.heads.len() && !at(self.asleep.as_slice(), own, true) {
-            put(&mut self.nexts, own, at(self.heads.as_slice(), thing, NONE));
-            put(&mut self.heads, thing, tag);
-            put(&mut self.asleep, own, true);
+            put(
+                self.nexts.as_mut(),
+                own,
+                at(self.heads.as_slice(), thing, NONE),
+            );
+            put(self.heads.as_mut(), thing, tag);
+            put(self.asleep.as_mut(), own, true);
         }
     }
 
     /// Something happens to a thing: who sleeps for it is to be looked at.
     pub(crate) fn wake(&mut self, thing: usize) {
         let mut tag = at(self.heads.as_slice(), thing, NONE);
-        put(&mut self.heads, thing, NONE);
+        put(self.heads.as_mut(), thing, NONE);
         for _ in 0..self.nexts.len() {
             if tag == NONE {
                 break;
             }
-            put(&mut self.asleep, tag as usize, false);
+            put(self.asleep.as_mut(), tag as usize, false);
             self.look_at_last(tag);
             tag = at(self.nexts.as_slice(), tag as usize, NONE);
         }
@@ -95,16 +136,17 @@ impl Sleepers {
 
     /// Nobody sleeps any more, and nobody is to be looked at before the others.
     pub(crate) fn forget(&mut self) {
-        self.heads.fill(NONE);
-        self.asleep.fill(false);
+        self.heads.as_mut().fill(NONE);
+        self.asleep.as_mut().fill(false);
         self.awake.clear();
     }
 }
 
-fn all_tags(alloc: Global, count: u16) -> Result<VecDeque<Tag>, Memory> {
-    let mut tags = VecDeque::new(alloc);
-    for tag in 0..count {
-        tags.push_back(tag)?;
+/// A list with this value so many times.
+pub(crate) fn same_of<T: Copy + Drop>(alloc: Global, value: T, count: usize) -> Gathered<T> {
+    let mut list = Gathered::new(alloc);
+    for _ in 0..count {
+        list.add(value);
     }
-    Ok(tags)
+    list
 }

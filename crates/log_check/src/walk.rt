@@ -10,7 +10,7 @@ use crate::polled::written_by;
 use crate::same::same_item;
 use crate::scene::{Rank, Scene, View};
 use co_base::{Gate, Memory, Tag};
-use engine_one::Trial;
+use engine_one::{Polled, Trial};
 use gathered::{Gathered, at};
 use history_text::Line;
 use note_book::{Item, Notes};
@@ -75,12 +75,39 @@ pub(crate) struct Path {
     noted: u32,
     seen: HashSet<u64>,
     numbers: Vec<u64>,
-    /// The most lines that were written, and the number of a line that could not be written then, with what is known of it.
-    most: usize,
     /// No coroutine before this one has a line left.
     first: Tag,
+    pub(crate) reached: Reached,
+}
+
+/// The most lines that were written, and the number of a line that could not be written then, with what is known of it.
+#[derive(Clone, Copy)]
+pub(crate) struct Reached {
+    most: usize,
     pub(crate) stuck: usize,
     pub(crate) hint: Hint,
+}
+
+impl Reached {
+    /// So many lines were written, and then this one could not be. What was known first of a line stays.
+    fn reach(&mut self, written: usize, stuck: usize, hint: Hint) {
+        let again = written == self.most
+            && stuck == self.stuck
+            && !matches!(self.hint, Hint::Nothing);
+        if written >= self.most && !again {
+            self.most = written;
+            self.stuck = stuck;
+            self.hint = hint;
+        }
+    }
+
+    /// A coroutine did this in place of its next line, or nothing; it is kept if that is the line that could not be written.
+    fn differs(&mut self, line: u32, tag: Tag, written: Option<Item>) {
+        let is_stuck = (line as usize).saturating_add(1) == self.stuck;
+        if is_stuck && matches!(self.hint, Hint::Nothing) {
+            self.hint = Hint::Instead(tag, written);
+        }
+    }
 }
 
 fn item_of(trial: &Trial<Notes>, tag: Tag, number: usize) -> Option<Item> {
@@ -99,6 +126,37 @@ fn is_wanted(wanted: Wanted, trial: &Trial<Notes>, tag: Tag, number: usize, line
     }
 }
 
+/// The number of the first line of a coroutine, from this one on, that is not what was wanted, where so many lines were written before;
+/// how many it has written, if there is none.
+fn first_miss(wanted: Wanted, trial: &Trial<Notes>, tag: Tag, before: usize, done: usize) -> usize {
+    let written = written_by(trial, tag);
+    let mut line = done;
+    for number in before..written {
+        if !is_wanted(wanted, trial, tag, number, line) {
+            return number;
+        }
+        line = line.saturating_add(1);
+    }
+    written
+}
+
+/// The first coroutine, from this one on, that has a line left; how many there are, if none has.
+fn first_left(wanted: Wanted, trial: &Trial<Notes>, from: Tag) -> Tag {
+    let count = wanted.script.coroutines();
+    for tag in from..count {
+        if wanted.plan.line_of(tag, written_by(trial, tag)) != NOWHERE {
+            return tag;
+        }
+    }
+    count
+}
+
+/// The number, from 1, of the next line of a coroutine; that behind all lines, if it has none left.
+fn line_left(wanted: Wanted, trial: &Trial<Notes>, tag: Tag) -> usize {
+    let line = wanted.plan.line_of(tag, written_by(trial, tag)) as usize;
+    line.min(wanted.lines.len()).saturating_add(1)
+}
+
 impl Path {
     /// Before the first poll. What the root noted before it is written already; if that is not what was wanted, no poll is left.
     pub(crate) fn begin(
@@ -106,34 +164,43 @@ impl Path {
         wanted: Wanted,
         trial: &Trial<Notes>,
     ) -> Result<Path, Memory> {
-        let mut path = Path::new(alloc, wanted)?;
-        let fits = path.fits(wanted, trial, 0, 0);
-        if fits {
-            path.keep(wanted, trial, 0, 0)?;
+        let mut path = Path::new(alloc, wanted);
+        if path.fits(wanted, trial, 0, 0) {
+            path.keep(wanted, trial, 0, 0);
         }
         let _mark = path.marks.pop();
         let _choice = path.choices.pop();
-        Ok(path)
+        if path.is_whole() {
+            Ok(path)
+        } else {
+            Err(Memory)
+        }
     }
 
-    fn new(alloc: Global, wanted: Wanted) -> Result<Path, Memory> {
-        let scene = Scene::new(alloc, wanted.plan, wanted.script, wanted.lines)?;
-        let mut choices = Gathered::new(alloc);
-        choices.add(0);
-        Ok(Path {
-            scene,
-            choices,
+    fn new(alloc: Global, wanted: Wanted) -> Path {
+        let mut path = Path {
+            scene: Scene::new(alloc, wanted.plan, wanted.script, wanted.lines),
+            choices: Gathered::new(alloc),
             marks: Gathered::new(alloc),
             done: 0,
             polls: 0,
             noted: 0,
             seen: HashSet::new(alloc),
             numbers: Vec::new(alloc),
-            most: 0,
             first: 0,
-            stuck: 1,
-            hint: Hint::Nothing,
-        })
+            reached: Reached {
+                most: 0,
+                stuck: 1,
+                hint: Hint::Nothing,
+            },
+        };
+        path.choices.add(0);
+        path
+    }
+
+    /// Whether memory held all that was kept.
+    fn is_whole(&self) -> bool {
+        self.scene.is_whole() && self.marks.is_whole() && self.choices.is_whole()
     }
 
     /// The coroutine that is to be polled next, if one is left that was not tried here.
@@ -145,21 +212,25 @@ impl Path {
             }
         }
         let first = self.choices.pop()?;
-        let mut next = first;
-        let mut found = None;
-        for choice in first..wanted.most_choices() {
-            next = choice.saturating_add(1);
-            found = self.tag_of(wanted, trial, choice);
-            if found.is_some() {
-                break;
-            }
-        }
+        let (next, found) = self.choice_from(wanted, trial, first);
         self.choices.add(next);
         found
     }
 
+    /// The number behind the first choice, from this one on, whose coroutine is to be tried, and the coroutine.
+    fn choice_from(&self, wanted: Wanted, trial: &Trial<Notes>, first: u32) -> (u32, Option<Tag>) {
+        let most = wanted.most_choices();
+        for choice in first..most {
+            let found = self.tag_of(wanted, trial, choice);
+            if found.is_some() {
+                return (choice.saturating_add(1), found);
+            }
+        }
+        (first.max(most), None)
+    }
+
     /// The coroutine of a choice, if it is to be tried.
-    fn tag_of(&mut self, wanted: Wanted, trial: &Trial<Notes>, choice: u32) -> Option<Tag> {
+    fn tag_of(&self, wanted: Wanted, trial: &Trial<Notes>, choice: u32) -> Option<Tag> {
         if wanted.ordered {
             self.tag_of_log(wanted, choice)
         } else {
@@ -178,7 +249,7 @@ impl Path {
     }
 
     /// The coroutine of a choice, if it has the rank that is tried: all of one rank come before the first of the next.
-    fn tag_of_report(&mut self, wanted: Wanted, trial: &Trial<Notes>, choice: u32) -> Option<Tag> {
+    fn tag_of_report(&self, wanted: Wanted, trial: &Trial<Notes>, choice: u32) -> Option<Tag> {
         let count = u32::from(wanted.script.coroutines());
         let tried = match choice.checked_div(count)? {
             0 => Rank::Now,
@@ -188,7 +259,7 @@ impl Path {
         };
         let tag = self.turned(wanted, trial, choice.checked_rem(count)?)?;
         let number = written_by(trial, tag);
-        let rank = self.scene.rank(wanted.view(trial), tag, number);
+        let rank = self.scene.state.rank(wanted.view(trial), tag, number);
         if rank == tried { Some(tag) } else { None }
     }
 
@@ -209,115 +280,102 @@ impl Path {
 
     /// Whether what a poll wrote is what was wanted.
     fn fits(&mut self, wanted: Wanted, trial: &Trial<Notes>, tag: Tag, before: usize) -> bool {
-        let mut line = self.done;
-        for number in before..written_by(trial, tag) {
-            if !is_wanted(wanted, trial, tag, number, line) {
-                self.miss(wanted, trial, tag, number, line);
-                return false;
-            }
-            line = line.saturating_add(1);
+        let number = first_miss(wanted, trial, tag, before, self.done);
+        let fits = number >= written_by(trial, tag);
+        if !fits {
+            let line = self.done.saturating_add(number.saturating_sub(before));
+            self.miss(wanted, trial, tag, number, line);
         }
-        true
+        fits
     }
 
     /// The line with this number among those of a coroutine is not what was wanted; it would be this one of all.
     fn miss(&mut self, wanted: Wanted, trial: &Trial<Notes>, tag: Tag, number: usize, line: usize) {
         let written = item_of(trial, tag, number);
         if wanted.ordered {
-            self.reach(line, line.saturating_add(1), Hint::Instead(tag, written));
+            self.reached
+                .reach(line, line.saturating_add(1), Hint::Instead(tag, written));
         } else {
-            self.differs(wanted.plan.line_of(tag, number), tag, written);
+            self.reached
+                .differs(wanted.plan.line_of(tag, number), tag, written);
         }
-    }
-
-    /// So many lines were written, and then this one could not be. What was known first of a line stays.
-    fn reach(&mut self, written: usize, stuck: usize, hint: Hint) {
-        let again = written == self.most
-            && stuck == self.stuck
-            && !matches!(self.hint, Hint::Nothing);
-        if written >= self.most && !again {
-            self.most = written;
-            self.stuck = stuck;
-            self.hint = hint;
-        }
-    }
-
-    /// A coroutine did this in place of its next line, or nothing; it is kept if that is the line that could not be written.
-    fn differs(&mut self, line: u32, tag: Tag, written: Option<Item>) {
-        let is_stuck = (line as usize).saturating_add(1) == self.stuck;
-        if is_stuck && matches!(self.hint, Hint::Nothing) {
-            self.hint = Hint::Instead(tag, written);
-        }
-    }
-
-    /// A coroutine did nothing.
-    fn rested(&mut self, wanted: Wanted, trial: &Trial<Notes>, tag: Tag) {
-        self.differs(wanted.plan.line_of(tag, written_by(trial, tag)), tag, None);
-    }
-
-    /// The number of the first line that is not written.
-    fn first_left(&mut self, wanted: Wanted, trial: &Trial<Notes>) -> usize {
-        if wanted.ordered {
-            return self.done.saturating_add(1);
-        }
-        for tag in self.first..wanted.script.coroutines() {
-            self.first = tag;
-            let line = wanted.plan.line_of(tag, written_by(trial, tag));
-            if line != NOWHERE {
-                return (line as usize).saturating_add(1);
-            }
-        }
-        wanted.lines.len().saturating_add(1)
     }
 
     /// Keeps what a poll wrote.
-    fn keep(
-        &mut self,
-        wanted: Wanted,
-        trial: &Trial<Notes>,
-        tag: Tag,
-        before: usize,
-    ) -> Result<(), Memory> {
+    fn keep(&mut self, wanted: Wanted, trial: &Trial<Notes>, tag: Tag, before: usize) {
+        let after = written_by(trial, tag);
         if !wanted.ordered {
-            self.keep_lines(wanted, trial, tag, before);
+            self.scene
+                .keep_lines(wanted.plan, wanted.lines, tag, before, after);
         }
+        self.mark(wanted, tag, after.saturating_sub(before));
+        if self.done > self.reached.most {
+            let stuck = self.next_line(wanted, trial);
+            self.reached.reach(self.done, stuck, Hint::Nothing);
+        }
+    }
+
+    /// A poll of this coroutine wrote so many lines.
+    fn mark(&mut self, wanted: Wanted, tag: Tag, written: usize) {
         self.scene.mark();
         if wanted.follows_wakes() {
             self.scene.look_at(tag, wanted.attempt == 0);
         }
         self.marks.add(self.done);
         self.choices.add(0);
-        let written = written_by(trial, tag).saturating_sub(before);
         self.done = self.done.saturating_add(written);
-        if self.done > self.most {
-            let stuck = self.first_left(wanted, trial);
-            self.reach(self.done, stuck, Hint::Nothing);
-        }
-        let whole = self.scene.is_whole() && self.marks.is_whole() && self.choices.is_whole();
-        if whole { Ok(()) } else { Err(Memory) }
     }
 
-    /// Tells the scene of the lines that a poll wrote.
-    fn keep_lines(&mut self, wanted: Wanted, trial: &Trial<Notes>, tag: Tag, before: usize) {
-        for number in before..written_by(trial, tag) {
-            let line = wanted.plan.line_of(tag, number);
-            if let Some(item) = item_of(trial, tag, number) {
-                self.scene.keep(wanted.plan, item, line as usize);
-            }
+    /// The number of the first line that is not written.
+    fn next_line(&mut self, wanted: Wanted, trial: &Trial<Notes>) -> usize {
+        if wanted.ordered {
+            return self.done.saturating_add(1);
         }
+        self.first = first_left(wanted, trial, self.first);
+        line_left(wanted, trial, self.first)
     }
 
     /// Forgets what the last poll wrote. The answer says whether there was one.
-    fn forget(&mut self, wanted: Wanted) -> bool {
+    fn forget(&mut self) -> bool {
         let Some(mark) = self.marks.pop() else {
             return false;
         };
         let _choice = self.choices.pop();
-        self.scene.take_back(wanted.plan);
+        self.scene.take_back();
         self.done = mark;
         self.first = 0;
         self.noted = NOTED;
         true
+    }
+
+    /// Keeps what this coroutine did, if anything, behind so many of its lines. The answer is no, if the poll is to be taken back: it did not
+    /// write what was wanted, or the run was here before.
+    fn goes_on(
+        &mut self,
+        wanted: Wanted,
+        trial: &Trial<Notes>,
+        tag: Tag,
+        before: usize,
+        polled: Option<Polled>,
+    ) -> Result<bool, Memory> {
+        let Some(polled) = polled else {
+            self.reached
+                .differs(wanted.plan.line_of(tag, before), tag, None);
+            return Ok(true);
+        };
+        if !self.fits(wanted, trial, tag, before) {
+            self.noted = NOTED;
+            return Ok(false);
+        }
+        self.keep(wanted, trial, tag, before);
+        if !self.is_whole() {
+            return Err(Memory);
+        }
+        if self.is_new(wanted, trial, polled.noted)? {
+            return Ok(true);
+        }
+        let _there = self.forget();
+        Ok(false)
     }
 
     /// Whether the run was never here before, as far as states are noted.
@@ -366,39 +424,21 @@ fn hash_with(hash: u64, number: u64) -> u64 {
     mixed ^ (mixed >> 32)
 }
 
-/// Brings the run back to where it was before its last poll.
+/// Brings the run back to where it was before its last poll, and counts the polls that this takes.
 fn go_back<G: Gate>(
     alloc: Global,
-    wanted: Wanted,
+    script: &Script,
     gate: &G,
     trial: &mut Trial<Notes>,
-    path: &mut Path,
+    polls: &mut u64,
 ) -> Result<(), Memory>
-    requires { TrialStands (program_of wanted.script.now) trial.old }
-    ensures { OnOk result (TrialStands (program_of wanted.entry.script.now) trial.new) }
+    requires { TrialStands (program_of script.now) trial.old }
+    ensures { OnOk result (TrialStands (program_of script.now) trial.new) }
 {
     let mut order = Vec::from_slice(alloc, trial.made())?;
     let _last = order.pop();
-    path.polls = path.polls.saturating_add(order.len() as u64);
-    trial.go_to(alloc, wanted.script, gate, order.as_slice())
-}
-
-/// Takes the last poll back. The answer says whether there was one.
-fn take_back<G: Gate>(
-    alloc: Global,
-    wanted: Wanted,
-    gate: &G,
-    trial: &mut Trial<Notes>,
-    path: &mut Path,
-) -> Result<bool, Memory>
-    requires { TrialStands (program_of wanted.script.now) trial.old }
-    ensures { OnOk result (TrialStands (program_of wanted.entry.script.now) trial.new) }
-{
-    if !path.forget(wanted) {
-        return Ok(false);
-    }
-    go_back(alloc, wanted, gate, trial, path)?;
-    Ok(true)
+    *polls = polls.saturating_add(order.len() as u64);
+    trial.go_to(alloc, script, gate, order.as_slice())
 }
 
 /// Tries one poll more, or takes the last one back. The answer says whether anything is left to be tried.
@@ -413,22 +453,17 @@ pub(crate) fn step<G: Gate>(
     ensures { OnOk result (TrialStands (program_of wanted.entry.script.now) trial.new) }
 {
     let Some(tag) = path.next_tag(wanted, trial) else {
-        return take_back(alloc, wanted, gate, trial, path);
+        if !path.forget() {
+            return Ok(false);
+        }
+        go_back(alloc, wanted.script, gate, trial, &mut path.polls)?;
+        return Ok(true);
     };
     let before = written_by(trial, tag);
     path.polls = path.polls.saturating_add(1);
-    let Some(polled) = trial.poll(wanted.script, gate, tag)? else {
-        path.rested(wanted, trial, tag);
-        return Ok(true);
-    };
-    if !path.fits(wanted, trial, tag, before) {
-        path.noted = NOTED;
-        go_back(alloc, wanted, gate, trial, path)?;
-        return Ok(true);
-    }
-    path.keep(wanted, trial, tag, before)?;
-    if !path.is_new(wanted, trial, polled.noted)? {
-        let _back = take_back(alloc, wanted, gate, trial, path)?;
+    let polled = trial.poll(wanted.script, gate, tag)?;
+    if !path.goes_on(wanted, trial, tag, before, polled)? {
+        go_back(alloc, wanted.script, gate, trial, &mut path.polls)?;
     }
     Ok(true)
 }

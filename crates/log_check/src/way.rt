@@ -88,7 +88,7 @@ fn way_behind(
     if found {
         Ok(Way::Found(Vec::from_slice(alloc, trial.made())?))
     } else {
-        Ok(Way::Stuck(path.stuck, path.hint))
+        Ok(Way::Stuck(path.reached.stuck, path.reached.hint))
     }
 }
 
