@@ -1,17 +1,18 @@
 //! What a report of a script comes to, in words.
 
-ghost use Rattle.std.specs.Prelude.{◌≡◌, ◌≤◌, ◌++◌, IfOk, OnOk, length, map};
+ghost use Rattle.std.specs.Prelude.{◌≡◌, ◌≤◌, IfOk, length, map};
+ghost use Rattle.std.specs.List.{flat_map};
 ghost use Rattle.script_reader.specs.Scripts.{program_of};
 ghost use Rattle.report_reader.specs.Reading.{told_lines};
-ghost use Rattle.run_explanation.specs.Answers.{Blames, Explains, Gives, GivesFor, TellsWaits, WaitsOf, calm_text, headed, left_open, texts_from, waits_text};
+ghost use Rattle.run_explanation.specs.Answers.{Blames, Explains, Gives, GivesFor, TellsWaits, WaitsOf, calm_text, headed, left_open, wait_line, waits_text};
 ghost use Rattle.run_explanation.specs.Fitting.{lines_for};
 ghost use Rattle.run_explanation.specs.Waiting.{waiting};
 
-use crate::classes::{Class, texts_of};
-use crate::entries::{Entry, push_entries, push_lines, push_wait_lines, push_waits};
+use crate::classes::Class;
+use crate::entries::{Entry, push_class, push_entries, push_wait_lines, push_waits};
 use crate::fits::lines_for;
 use crate::parts::parts_of;
-use crate::story::{Story, story_of};
+use crate::story::Story;
 use crate::waiting::waiting;
 use report_reader::{Line, NoReport};
 use script_grammar::{FaultKind, ScriptFault};
@@ -27,23 +28,6 @@ pub enum Unexplained {
     NoReport(u32),
     /// No memory was found.
     Memory,
-}
-
-/// Adds the entries of the lines of this class.
-fn push_class<'a>(
-    alloc: Global,
-    entries: &mut Vec<Entry>,
-    script: &Script,
-    story: &Story<'a>,
-    waits: &[u32],
-    class: Class,
-    lines: &[Line<'a>],
-) -> Result<(), AllocError>
-    ensures { OnOk result (headed entries.new.items
-        ≡ headed entries.old.items ++ texts_from (program_of script.now) waits.now class (told_lines lines.now)) }
-{
-    let found = texts_of(alloc, script, waits, class, lines)?;
-    push_lines(alloc, entries, story, found.as_slice())
 }
 
 /// The entries of what did not come to its end.
@@ -140,27 +124,29 @@ fn explain_report(
 }
 
 /// The explanation of a report with these lines of a script with this text.
-fn told(
+fn told<'a>(
     alloc: Global,
-    script: &Script,
-    source: &[u8],
-    lines: &[Line],
-) -> Result<Vec<u8>, AllocError>
-    ensures { IfOk result (λ text. Explains (program_of script.now) (told_lines lines.now) text.items) }
-{
-    let story = story_of(alloc, script, source, lines)?;
-    told_by(alloc, script, &story, lines)
-}
-
-/// The same by what is known of the run.
-fn told_by<'a>(
-    alloc: Global,
-    script: &Script,
-    story: &Story<'a>,
+    script: &'a Script,
+    source: &'a [u8],
     lines: &[Line<'a>],
 ) -> Result<Vec<u8>, AllocError>
     ensures { IfOk result (λ text. Explains (program_of script.now) (told_lines lines.now) text.items) }
 {
+    let mut story = Story::new(alloc, script);
+    told_by(alloc, script, &mut story, source, lines)
+}
+
+/// The same, with a story to be read.
+fn told_by<'a>(
+    alloc: Global,
+    script: &Script,
+    story: &mut Story<'a>,
+    source: &'a [u8],
+    lines: &[Line<'a>],
+) -> Result<Vec<u8>, AllocError>
+    ensures { IfOk result (λ text. Explains (program_of script.now) (told_lines lines.now) text.items) }
+{
+    story.read(alloc, source, lines)?;
     let waits = waiting(alloc, lines)?;
     explained(alloc, script, story, waits.as_slice(), lines)
 }
@@ -206,18 +192,39 @@ pub fn explain_waits(
 }
 
 /// The same of a report with these lines.
-fn told_waits(
+fn told_waits<'a>(
     alloc: Global,
-    script: &Script,
-    source: &[u8],
-    lines: &[Line],
+    script: &'a Script,
+    source: &'a [u8],
+    lines: &[Line<'a>],
 ) -> Result<Vec<u8>, AllocError>
     ensures { IfOk result (λ text. TellsWaits (program_of script.now) (told_lines lines.now) text.items) }
 {
-    let story = story_of(alloc, script, source, lines)?;
-    let entries = waits_in(alloc, script, &story, lines)?;
+    let mut story = Story::new(alloc, script);
+    told_waits_by(alloc, script, &mut story, source, lines)
+}
+
+/// The same, with a story to be read.
+fn told_waits_by<'a>(
+    alloc: Global,
+    script: &Script,
+    story: &mut Story<'a>,
+    source: &'a [u8],
+    lines: &[Line<'a>],
+) -> Result<Vec<u8>, AllocError>
+    ensures { IfOk result (λ text. TellsWaits (program_of script.now) (told_lines lines.now) text.items) }
+{
+    story.read(alloc, source, lines)?;
+    let entries = waits_in(alloc, script, story, lines)?;
+    wait_lines(alloc, entries.as_slice())
+}
+
+/// The text of entries, each on one line.
+fn wait_lines(alloc: Global, entries: &[Entry]) -> Result<Vec<u8>, AllocError>
+    ensures { IfOk result (λ text. text.items ≡ flat_map wait_line entries.now) }
+{
     let mut text = Vec::new(alloc);
-    push_wait_lines(&mut text, entries.as_slice())?;
+    push_wait_lines(&mut text, entries)?;
     Ok(text)
 }
 

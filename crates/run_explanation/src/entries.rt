@@ -5,11 +5,13 @@ ghost use Rattle.std.specs.List.{flat_map};
 ghost use lib.Chars.{codes};
 ghost use Rattle.script_reader.specs.Programs.{block_of};
 ghost use Rattle.script_reader.specs.Scripts.{program_of};
-ghost use Rattle.report_reader.specs.Words.{texts};
-ghost use Rattle.run_explanation.specs.Answers.{entry_text, headed, hint_line, name_of_block, name_of_tag, plain, plain_byte, wait_line, waits_text};
+ghost use Rattle.report_reader.specs.Reading.{told_lines};
+ghost use Rattle.run_explanation.specs.Answers.{entry_text, headed, hint_line, name_of_block, name_of_tag, plain, plain_byte, texts_from, wait_line, waits_text};
 
+use crate::classes::{Class, class_of, is_of};
 use crate::hints::{Hint, line_hint, wait_hint};
 use crate::story::Story;
+use report_reader::Line;
 use script_reader::{Coroutine, Script};
 use std::alloc::{AllocError, Global};
 
@@ -83,20 +85,38 @@ pub(crate) fn push_waits(
     Ok(())
 }
 
-/// Adds the entries of these lines.
-pub(crate) fn push_lines<'a>(
+/// Adds the entry of a line.
+fn push_line<'a>(
     alloc: Global,
     entries: &mut Vec<Entry>,
     story: &Story<'a>,
-    lines: &[&'a [u8]],
+    line: &'a [u8],
 ) -> Result<(), AllocError>
-    ensures { OnOk result (headed entries.new.items ≡ headed entries.old.items ++ texts lines.now) }
+    ensures { OnOk result (headed entries.new.items ≡ headed entries.old.items ++ line.now ∷ []) }
+{
+    let heading = Vec::from_slice(alloc, line)?;
+    let hint = line_hint(alloc, story, line)?;
+    push_entry(entries, heading, hint)
+}
+
+/// Adds the entries of the lines of this class.
+pub(crate) fn push_class<'a>(
+    alloc: Global,
+    entries: &mut Vec<Entry>,
+    script: &Script,
+    story: &Story<'a>,
+    waits: &[u32],
+    class: Class,
+    lines: &[Line<'a>],
+) -> Result<(), AllocError>
+    ensures { OnOk result (headed entries.new.items
+        ≡ headed entries.old.items ++ texts_from (program_of script.now) waits.now class (told_lines lines.now)) }
 {
     let mut rest = lines;
     while let [line, more @ ..] = rest {
-        let heading = Vec::from_slice(alloc, *line)?;
-        let hint = line_hint(alloc, story, *line)?;
-        push_entry(entries, heading, hint)?;
+        if is_of(class, class_of(script, waits, *line)) {
+            push_line(alloc, entries, story, line.text)?;
+        }
         rest = more;
     }
     Ok(())
@@ -122,7 +142,7 @@ fn push_plain(out: &mut Vec<u8>, hint: &[u8]) -> Result<(), AllocError>
 }
 
 /// Adds what stands before a hint, the hint, and a line feed.
-fn push_line(out: &mut Vec<u8>, before: &[u8], hint: &[u8]) -> Result<(), AllocError>
+fn push_hint(out: &mut Vec<u8>, before: &[u8], hint: &[u8]) -> Result<(), AllocError>
     ensures { OnOk result (out.new.items ≡ out.old.items ++ (before.now ++ (plain hint.now ++ codes "\n"))) }
 {
     out.extend_from_slice(before)?;
@@ -136,7 +156,7 @@ fn push_hints(out: &mut Vec<u8>, hints: &[String]) -> Result<(), AllocError>
 {
     let mut rest = hints;
     while let [hint, more @ ..] = rest {
-        push_line(out, b"  ", hint.as_bytes())?;
+        push_hint(out, b"  ", hint.as_bytes())?;
         rest = more;
     }
     Ok(())
@@ -145,7 +165,7 @@ fn push_hints(out: &mut Vec<u8>, hints: &[String]) -> Result<(), AllocError>
 fn push_text(out: &mut Vec<u8>, entry: &Entry) -> Result<(), AllocError>
     ensures { OnOk result (out.new.items ≡ out.old.items ++ entry_text entry.now) }
 {
-    push_line(out, entry.heading.as_slice(), entry.hint.as_bytes())?;
+    push_hint(out, entry.heading.as_slice(), entry.hint.as_bytes())?;
     push_hints(out, entry.more.as_slice())
 }
 
@@ -166,7 +186,7 @@ fn push_wait_line(out: &mut Vec<u8>, entry: &Entry) -> Result<(), AllocError>
     ensures { OnOk result (out.new.items ≡ out.old.items ++ wait_line entry.now) }
 {
     out.extend_from_slice(b"  ")?;
-    push_line(out, entry.heading.as_slice(), entry.hint.as_bytes())
+    push_hint(out, entry.heading.as_slice(), entry.hint.as_bytes())
 }
 
 /// Adds entries, each on one line.

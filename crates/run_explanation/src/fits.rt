@@ -8,7 +8,7 @@ ghost use Rattle.script_reader.specs.Programs.{declared_of};
 ghost use Rattle.script_reader.specs.Scripts.{program_of};
 ghost use Rattle.report_reader.specs.Words.{parts, texts};
 ghost use Rattle.report_reader.specs.Reading.{Gives};
-ghost use Rattle.run_explanation.specs.Fitting.{begins_with_channel, channel_fits, fits, has_point, is_channel_of, is_figure, is_known, is_on_channel, is_row, is_tag, line_fits, lines_for, misfit_in, note_fits, object_fits, row_fits, wait_fits, waits_fit, words_fit};
+ghost use Rattle.run_explanation.specs.Fitting.{begins_with_channel, channel_fits, fits, has_point, is_channel_of, is_figure, is_known, is_on_channel, is_row, is_tag, line_fits, lines_for, misfit_in, note_fits, row_fits, wait_fits, waits_fit};
 
 use report_reader::{Line, NoReport, cut_at, read, value_of, words_of};
 use script_reader::{Channel, Script};
@@ -127,23 +127,15 @@ fn waits_fit(script: &Script, words: &[&[u8]]) -> bool
 }
 
 /// Whether what stands behind the verb is known.
-fn object_fits(script: &Script, verb: &[u8], words: &[&[u8]]) -> bool
-    ensures { result ≡ object_fits (program_of script.now) verb.now (texts words.now) }
-{
-    match words {
-        [] => true,
-        [word, rest @ ..] => {
-            (verb == b"fail".as_slice() || is_known(script, *word)) && waits_fit(script, rest)
-        }
-    }
-}
-
 fn note_fits(script: &Script, words: &[&[u8]]) -> bool
     ensures { result ≡ note_fits (program_of script.now) (texts words.now) }
 {
     match words {
         [] => false,
-        [verb, rest @ ..] => object_fits(script, *verb, rest),
+        [_] => true,
+        [verb, word, rest @ ..] => {
+            (*verb == b"fail".as_slice() || is_known(script, *word)) && waits_fit(script, rest)
+        }
     }
 }
 
@@ -181,21 +173,15 @@ fn line_fits(script: &Script, first: &[u8], words: &[&[u8]]) -> bool
     }
 }
 
-fn words_fit(script: &Script, words: &[&[u8]]) -> bool
-    ensures { result ≡ words_fit (program_of script.now) (texts words.now) }
-{
-    match words {
-        [] => true,
-        [first, rest @ ..] => line_fits(script, *first, rest),
-    }
-}
-
 /// Whether a line names only what the script has. The vector is a place for its words.
 fn fits<'a>(script: &Script, words: &mut Vec<&'a [u8]>, line: &'a [u8]) -> Result<bool, AllocError>
     ensures { IfOk result (λ good. good ≡ fits (program_of script.now) line.now) }
 {
     words_of(words, line)?;
-    Ok(words_fit(script, words.as_slice()))
+    match words.as_slice() {
+        [] => Ok(true),
+        [first, rest @ ..] => Ok(line_fits(script, *first, rest)),
+    }
 }
 
 /// The number of the first line of a text that names something that the script has not.

@@ -1,9 +1,9 @@
 //! What an entry says behind its heading, of which nothing is promised.
 
 use crate::entries::name_of_tag;
-use crate::notes::{Note, is_in, words_in};
+use crate::notes::{NO_ROW, Note, is_in, words_in};
 use crate::partners::{Awaited, awaited_by, find_circle, find_partners};
-use crate::source::SourceLine;
+use crate::source::{NO_LINE, SourceLine};
 use crate::story::Story;
 use crate::verbs::{AWAIT, CANCEL, DRAIN, DROP, FAIL, HAND, OFFER, PUT, SPENT, SPURN};
 use gathered::{Gathered, NOWHERE};
@@ -101,7 +101,7 @@ impl Saying {
     /// Says these rows; memory may have run out as they were gathered.
     fn gathered(&mut self, script: &Script, rows: &Gathered<u32>) {
         self.rows(script, rows.as_slice());
-        self.full = self.full || rows.full;
+        self.full = self.full | rows.full;
     }
 
     /// Says a line of the script, as ` at line 5: receive a`, if it is known.
@@ -112,12 +112,6 @@ impl Saying {
             self.say(": ");
             self.bytes(line.text);
         }
-    }
-
-    /// Says who made a note, and at which line.
-    fn maker<'a>(&mut self, story: &Story<'a>, note: &Note<'a>) {
-        self.row(story.script, note.tag);
-        self.source(story.source_of(note));
     }
 
     /// The hint, if memory held all that was said.
@@ -140,22 +134,24 @@ impl Saying {
 
 /// What it says of a wait whose line is not known.
 fn say_wait(out: &mut Saying, story: &Story<'_>, note: &Note<'_>) {
-    let awaited = awaited_by(story, note);
-    out.say(match awaited {
+    out.say(match awaited_by(note) {
         Awaited::Element(_) => " to receive from ",
         Awaited::Receiver(_) => " to send on ",
         Awaited::End(_) => " for the end of ",
         Awaited::Unknown => " on ",
     });
-    match awaited {
-        Awaited::End(row) => out.row(story.script, row),
-        _ => out.bytes(note.word(2)),
+    let row = note.done_row();
+    if row == NO_ROW {
+        out.bytes(note.word(2));
+    } else {
+        out.row(story.script, row);
     }
 }
 
 /// Says what the wait is for, where the line does not say it.
 fn say_job<'a>(out: &mut Saying, story: &Story<'a>, note: &Note<'a>) {
-    if let Some(row) = note.done_row() {
+    let row = note.done_row();
+    if row != NO_ROW {
         out.line();
         out.say("for the end of ");
         out.row(story.script, row);
@@ -186,7 +182,7 @@ fn say_circle(out: &mut Saying, story: &Story<'_>, tag: u32) {
         out.say(", ");
         out.row(story.script, tag);
     }
-    out.full = out.full || circle.full;
+    out.full = out.full | circle.full;
 }
 
 /// The line at which a coroutine waits, who could end that, and a circle of waits.
@@ -211,19 +207,22 @@ pub(crate) fn wait_hint(alloc: Global, story: &Story<'_>, tag: u32) -> Result<Hi
 /// The number of the note that has one of these verbs, on this channel and place.
 fn note_at(story: &Story<'_>, verbs: u32, channel: &[u8], place: &[u8]) -> usize {
     for (number, note) in story.notes().iter().enumerate() {
-        if note.is_one_of(verbs) && note.word(2) == channel && note.word(3) == place {
+        if note.is_one_of(verbs) && note.is_at(channel, place) {
             return number;
         }
     }
     NOWHERE
 }
 
-/// Says below the heading who made the note of this number, if there is one.
-fn say_maker(out: &mut Saying, story: &Story<'_>, verb: &str, number: usize) {
+/// Says who made the note of this number, if there is one: behind the heading, or below it.
+fn say_maker(out: &mut Saying, story: &Story<'_>, below: bool, verb: &str, number: usize) {
     if let Some(note) = story.note(number) {
-        out.line();
+        if below {
+            out.line();
+        }
         out.say(verb);
-        out.maker(story, note);
+        out.row(story.script, note.tag);
+        out.source(story.source_of(note));
     }
 }
 
@@ -232,12 +231,9 @@ fn say_element(out: &mut Saying, story: &Story<'_>, channel: &[u8], place: &[u8]
     let sent = note_at(story, HAND | PUT | OFFER, channel, place);
     let handed = note_at(story, AWAIT, channel, place);
     let discarded = note_at(story, DROP | SPURN | DRAIN, channel, place);
-    if let Some(note) = story.note(sent) {
-        out.say(": sent by ");
-        out.maker(story, note);
-    }
-    say_maker(out, story, "handed to ", handed);
-    say_maker(out, story, "discarded by ", discarded);
+    say_maker(out, story, false, ": sent by ", sent);
+    say_maker(out, story, true, "handed to ", handed);
+    say_maker(out, story, true, "discarded by ", discarded);
 }
 
 // ---- a Job
@@ -246,7 +242,7 @@ fn say_element(out: &mut Saying, story: &Story<'_>, channel: &[u8], place: &[u8]
 fn say_below(out: &mut Saying, story: &Story<'_>, row: u32) {
     let mut found = Gathered::new(out.alloc);
     for other in 0..u32::from(story.script.jobs()) {
-        if story.is_open_below(other, row) {
+        if story.row(other).is_open_below(row) {
             found.add(other);
         }
     }
@@ -265,41 +261,36 @@ fn say_job_open(out: &mut Saying, story: &Story<'_>, row: u32, state: &[u8]) {
     }
 }
 
-/// The number of the first note by which the body of a coroutine failed.
-fn failure_of(story: &Story<'_>, tag: u32) -> usize {
-    let known = story.row(tag);
-    for number in known.first..known.end {
-        if let Some(note) = story.note(number)
-            && note.is_one_of(FAIL | SPENT)
-        {
-            return number;
+/// The line at which the body of a coroutine failed.
+fn failure_of<'a>(story: &Story<'a>, tag: u32) -> SourceLine<'a> {
+    for note in story.notes_of(tag) {
+        if note.is_one_of(FAIL | SPENT) {
+            return story.source_of(note);
         }
     }
-    NOWHERE
+    NO_LINE
+}
+
+/// So a Job is cancelled by a failure.
+const FAILURES: [&[u8]; 2] = [b"own", b"child"];
+
+/// Whether a Job is cancelled by a failure if this is the cause, and the one before it was or was not.
+fn is_by_failure(cause: &[u8], before: bool) -> bool {
+    is_in(cause, &FAILURES) | (before & (cause == b"parent".as_slice()))
 }
 
 /// Adds the rows that a coroutine cancelled by failures, in its order, but for this one.
 fn find_cancelled(rows: &mut Gathered<u32>, story: &Story<'_>, tag: u32) {
-    let known = story.row(tag);
     let mut fails = false;
-    for number in known.first..known.end {
-        if let Some(note) = story.note(number)
-            && note.is_one_of(CANCEL)
-        {
+    for note in story.notes_of(tag) {
+        if note.is_one_of(CANCEL) {
+            let row = note.row(2);
             fails = is_by_failure(note.word(3), fails);
-            if let Some(row) = note.number(2)
-                && fails
-                && row != tag
-            {
+            if fails & (row != tag) & (row != NO_ROW) {
                 rows.add(row);
             }
         }
     }
-}
-
-/// Whether a Job is cancelled by a failure if this is the cause, and the one before it was or was not.
-fn is_by_failure(cause: &[u8], before: bool) -> bool {
-    is_in(cause, b"own child") || (before && cause == b"parent".as_slice())
 }
 
 /// Says whom the failure of a coroutine cancelled.
@@ -317,9 +308,7 @@ fn say_failure(out: &mut Saying, story: &Story<'_>, row: u32, cause: u32) {
     out.row(story.script, row);
     if row == cause {
         out.say(" failed");
-        if let Some(note) = story.note(failure_of(story, row)) {
-            out.source(story.source_of(note));
-        }
+        out.source(failure_of(story, row));
         say_cancelled(out, story, row);
     } else {
         out.say(" failed by the failure of ");

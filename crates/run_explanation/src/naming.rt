@@ -10,7 +10,8 @@ use crate::entries::name_of_tag;
 use crate::fits::lines_for;
 use crate::parts::parts_of;
 use crate::source::SourceLine;
-use crate::story::{Story, story_of};
+use crate::story::Story;
+use gathered::{Gathered, Text};
 use report_reader::{Line, NoReport};
 use script_reader::{Script, read};
 use std::alloc::{AllocError, Global};
@@ -58,32 +59,44 @@ fn names_of(alloc: Global, script: &Script) -> Result<Vec<Vec<u8>>, AllocError>
 
 /// A line of the script with its number; nothing where none is known.
 fn text_of(alloc: Global, line: SourceLine<'_>) -> Result<Vec<u8>, AllocError> {
-    if !line.is_known() {
-        return Ok(Vec::new(alloc));
+    let mut text = Text::new(alloc);
+    if line.is_known() {
+        text.add_numbered(b"line ", u64::from(line.number));
+        text.add(b": ");
+        text.add(line.text);
     }
-    let number = line.number;
-    let head = format!(in alloc; "line {number}: ")?;
-    [head.as_bytes(), line.text].concat(alloc)
+    text.whole()
+}
+
+/// Adds the line of the script that a line of the books was made at.
+fn add_source(alloc: Global, sources: &mut Gathered<Vec<u8>>, line: SourceLine<'_>) {
+    match text_of(alloc, line) {
+        Ok(text) => sources.add(text),
+        Err(_) => sources.full = true,
+    }
 }
 
 /// The lines of the script that the lines of the books were made at.
 fn sources_in(alloc: Global, story: &Story<'_>) -> Result<Vec<Vec<u8>>, AllocError> {
-    let mut sources = Vec::new(alloc);
+    let mut sources = Gathered::new(alloc);
     for note in story.notes() {
-        sources.push(text_of(alloc, story.source_of(note))?)?;
+        add_source(alloc, &mut sources, story.source_of(note));
     }
-    Ok(sources)
+    sources.whole()
 }
 
 /// The same of these lines of a report of a script with this text.
-fn sources_of(
+fn sources_of<'a>(
     alloc: Global,
-    script: &Script,
-    source: &[u8],
-    lines: &[Line],
+    script: &'a Script,
+    source: &'a [u8],
+    lines: &[Line<'a>],
 ) -> Result<Vec<Vec<u8>>, AllocError> {
-    let story = story_of(alloc, script, source, lines)?;
-    sources_in(alloc, &story)
+    let mut story = Story::new(alloc, script);
+    match story.read(alloc, source, lines) {
+        Ok(()) => sources_in(alloc, &story),
+        Err(fault) => Err(fault),
+    }
 }
 
 /// These lines of a report, beside what a script with this text says.

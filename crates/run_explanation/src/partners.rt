@@ -1,11 +1,11 @@
 //! Who could still end a wait, for hints.
 
-use crate::notes::Note;
+use crate::notes::{NO_CHANNEL, NO_ROW, Note};
 use crate::story::Story;
 use crate::verbs::OFFER;
 use crate::walk::code_of;
 use gathered::{Gathered, at};
-use script_reader::{Channel, Instruction};
+use script_reader::Instruction;
 use std::alloc::Global;
 
 /// What a wait waits for.
@@ -20,33 +20,17 @@ pub(crate) enum Awaited {
     Unknown,
 }
 
-/// The number of no channel: a script has fewer.
-const NO_CHANNEL: u16 = u16::MAX;
-
-/// The number of the channel with this name.
-fn channel_named(channels: &[Channel], name: &[u8]) -> u16 {
-    let mut c = 0u16;
-    for channel in channels {
-        if channel.name.as_bytes() == name {
-            return c;
-        }
-        c = c.saturating_add(1);
-    }
-    NO_CHANNEL
-}
-
 /// What the line that begins a wait waits for.
-pub(crate) fn awaited_by(story: &Story<'_>, note: &Note<'_>) -> Awaited {
-    if let Some(row) = note.done_row() {
-        return Awaited::End(row);
-    }
-    let c = channel_named(story.script.channels(), note.word(2));
-    if c == NO_CHANNEL {
+pub(crate) fn awaited_by(note: &Note<'_>) -> Awaited {
+    let row = note.done_row();
+    if row != NO_ROW {
+        Awaited::End(row)
+    } else if note.channel == NO_CHANNEL {
         Awaited::Unknown
     } else if note.is_one_of(OFFER) {
-        Awaited::Receiver(c)
+        Awaited::Receiver(note.channel)
     } else {
-        Awaited::Element(c)
+        Awaited::Element(note.channel)
     }
 }
 
@@ -107,16 +91,22 @@ fn add_blocks(blocks: &mut Gathered<bool>, story: &Story<'_>, awaited: Awaited) 
 fn add_below(found: &mut Gathered<u32>, story: &Story<'_>, row: u32) {
     let coroutines = u32::from(story.script.coroutines());
     if row < coroutines {
-        if !story.has_ended(row) {
+        if !story.row(row).ended {
             found.add(row);
         }
         return;
     }
     for tag in 0..coroutines {
-        if story.is_open_below(tag, row) {
+        if story.row(tag).is_open_below(row) {
             found.add(tag);
         }
     }
+}
+
+/// Whether a coroutine has a line left which can end such a wait.
+fn is_able(story: &Story<'_>, tag: u32, awaited: Awaited, blocks: &[bool]) -> bool {
+    let row = story.row(tag);
+    row.open && one_can_end(code_of(story.script, tag), row.left_from, awaited, blocks)
 }
 
 /// Adds the coroutines beside this one that have a line left which can end such a wait.
@@ -128,12 +118,11 @@ fn add_able(
     blocks: &[bool],
 ) {
     for other in 0..u32::from(story.script.coroutines()) {
-        if other != tag && story.is_open(other) {
-            let code = code_of(story.script, other);
-            let left_from = story.row(other).left_from;
-            if one_can_end(code, left_from, awaited, blocks) && !found.as_slice().contains(&other) {
-                found.add(other);
-            }
+        if other != tag
+            && is_able(story, other, awaited, blocks)
+            && !found.as_slice().contains(&other)
+        {
+            found.add(other);
         }
     }
 }
@@ -146,28 +135,44 @@ fn add_partners(
     tag: u32,
     awaited: Awaited,
 ) {
-    if let Awaited::End(row) = awaited {
-        return add_below(found, story, row);
+    match awaited {
+        Awaited::Unknown => {}
+        Awaited::End(row) => add_below(found, story, row),
+        _ => {
+            let mut blocks = Gathered::new(alloc);
+            add_blocks(&mut blocks, story, awaited);
+            add_able(found, story, tag, awaited, blocks.as_slice());
+            found.full = found.full | blocks.full;
+        }
     }
-    let mut blocks = Gathered::new(alloc);
-    add_blocks(&mut blocks, story, awaited);
-    add_able(found, story, tag, awaited, blocks.as_slice());
-    found.full = found.full || blocks.full;
+}
+
+/// What a note waits for, if it begins this wait.
+fn awaited_in(note: &Note<'_>, wait: &[u8]) -> Awaited {
+    if note.begins() && note.wait() == wait {
+        awaited_by(note)
+    } else {
+        Awaited::Unknown
+    }
+}
+
+/// Adds the coroutines that could end this wait of a coroutine.
+fn add_all_partners(
+    alloc: Global,
+    found: &mut Gathered<u32>,
+    story: &Story<'_>,
+    tag: u32,
+    wait: &[u8],
+) {
+    for note in story.notes_of(tag) {
+        add_partners(alloc, found, story, tag, awaited_in(note, wait));
+    }
 }
 
 /// Adds the coroutines that could end the wait of a coroutine.
 pub(crate) fn find_partners(alloc: Global, found: &mut Gathered<u32>, story: &Story<'_>, tag: u32) {
-    let known = story.row(tag);
-    let Some(last) = story.note(known.wait) else {
-        return;
-    };
-    for number in known.first..known.end {
-        if let Some(note) = story.note(number)
-            && note.begins()
-            && note.wait() == last.wait()
-        {
-            add_partners(alloc, found, story, tag, awaited_by(story, note));
-        }
+    if let Some(last) = story.note(story.row(tag).wait) {
+        add_all_partners(alloc, found, story, tag, last.wait());
     }
 }
 
@@ -187,7 +192,7 @@ pub(crate) fn find_circle(
         circle.add(here);
         let mut partners = Gathered::new(alloc);
         find_partners(alloc, &mut partners, story, here);
-        circle.full = circle.full || partners.full;
+        circle.full = circle.full | partners.full;
         let Some(next) = first_waiting(story, partners.as_slice()) else {
             return false;
         };

@@ -1,6 +1,6 @@
 //! The lines of a script's text, for hints.
 
-use gathered::{Gathered, NOWHERE, at};
+use gathered::{Gathered, NOWHERE, at, between};
 use report_reader::cut_at;
 use std::alloc::Global;
 
@@ -24,46 +24,27 @@ impl<'a> SourceLine<'a> {
 }
 
 fn is_blank(byte: u8) -> bool {
-    byte == b' ' || byte == b'\t' || byte == b'\r'
+    (byte == b' ') | (byte == b'\t') | (byte == b'\r')
 }
 
-/// A line without what stands before its first word.
-fn without_indent(line: &[u8]) -> &[u8] {
-    let mut rest = line;
-    while let [byte, more @ ..] = rest {
-        if !is_blank(*byte) {
-            return rest;
-        }
-        rest = more;
-    }
-    rest
-}
-
-/// How many bytes of a line stand before its comment, up to the end of its last word.
-fn worded(line: &[u8]) -> usize {
+/// The words of a line as they are written, without what stands before them and their comment.
+fn words_in(line: &[u8]) -> &[u8] {
+    let mut first = 0usize;
     let mut end = 0usize;
     let mut begins = true;
     for (i, byte) in line.iter().enumerate() {
-        if is_blank(*byte) {
-            begins = true;
-        } else {
-            if begins && *byte == b'#' {
-                return end;
+        if begins & (*byte == b'#') {
+            break;
+        }
+        begins = is_blank(*byte);
+        if !begins {
+            if end == 0 {
+                first = i;
             }
-            begins = false;
             end = i + 1;
         }
     }
-    end
-}
-
-/// The words of a line as they are written.
-fn words_in(line: &[u8]) -> &[u8] {
-    let text = without_indent(line);
-    match text.get(..worded(text)) {
-        Some(words) => words,
-        None => text,
-    }
+    between(line, first, end)
 }
 
 /// Whether a line begins a coroutine.
@@ -90,7 +71,7 @@ impl<'a> Source<'a> {
 
     /// Whether memory ran out.
     pub(crate) fn is_full(&self) -> bool {
-        self.lines.full || self.blocks.full
+        self.lines.full | self.blocks.full
     }
 
     /// Adds the lines of a text.
@@ -100,10 +81,7 @@ impl<'a> Source<'a> {
         'lines: loop {
             let (line, more) = cut_at(b'\n', rest);
             number = number.saturating_add(1);
-            self.add(SourceLine {
-                number,
-                text: words_in(line),
-            });
+            self.add(number, words_in(line));
             let Some(next) = more else {
                 return;
             };
@@ -111,12 +89,11 @@ impl<'a> Source<'a> {
         }
     }
 
-    fn add(&mut self, line: SourceLine<'a>) {
-        if is_head(line.text) {
-            let before = self.lines.as_slice().len();
-            self.blocks.add(before);
-        } else if !line.text.is_empty() {
-            self.lines.add(line);
+    fn add(&mut self, number: u32, text: &'a [u8]) {
+        if is_head(text) {
+            self.blocks.add(self.lines.len());
+        } else if !text.is_empty() {
+            self.lines.add(SourceLine { number, text });
         }
     }
 

@@ -1,16 +1,13 @@
 //! What is known of a run, for hints.
 
-use crate::notes::{Note, is_in, note_of, words_in};
-use crate::source::{NO_LINE, Source, SourceLine};
+use crate::notes::{NO_ROW, Note, is_in, words_in};
+use crate::source::{Source, SourceLine};
 use crate::verbs::{ATTACH, SETTLE, WITHDRAW};
-use crate::walk::{Walk, closing, code_of, walk_of};
-use gathered::{Gathered, NOWHERE, at, put};
+use crate::walk::{closing, code_in, is_clause, line_at, walk_of};
+use gathered::{Gathered, NOWHERE, at, between};
 use report_reader::{Line, Said};
 use script_reader::{Instruction, Script};
 use std::alloc::{AllocError, Global};
-
-/// How many lines may be passed in all, to find those of the notes.
-const BUDGET: u32 = 50_000_000;
 
 /// What hints are made of.
 #[derive(Drop)]
@@ -18,18 +15,18 @@ pub(crate) struct Story<'a> {
     pub(crate) script: &'a Script,
     source: Source<'a>,
     notes: Gathered<Note<'a>>,
-    rows: Vec<Row<'a>>,
-    /// Memory ran out as the coroutines were walked.
-    full: bool,
+    rows: Gathered<Row>,
 }
 
 /// What is known of a row: of its Job, and of the coroutine that runs as it.
 #[derive(Clone, Copy)]
-pub(crate) struct Row<'a> {
-    /// The word for how its Job ended, or how far it is; empty where it has no line.
-    state: &'a [u8],
-    /// The row above it.
-    parent: Option<u32>,
+pub(crate) struct Row {
+    /// Its Job has ended, or was never attached.
+    pub(crate) ended: bool,
+    /// Its Job has a line, and has not ended.
+    pub(crate) open: bool,
+    /// The row above it; or `NO_ROW`.
+    parent: u32,
     /// The number of the coroutine's first note, and that behind its last.
     pub(crate) first: usize,
     pub(crate) end: usize,
@@ -42,9 +39,10 @@ pub(crate) struct Row<'a> {
 }
 
 /// What is known of a row of which nothing was told.
-const NO_ROW: Row<'static> = Row {
-    state: b"",
-    parent: None,
+const UNTOLD: Row = Row {
+    ended: false,
+    open: false,
+    parent: NO_ROW,
     first: 0,
     end: 0,
     wait: NOWHERE,
@@ -52,127 +50,134 @@ const NO_ROW: Row<'static> = Row {
     left_from: 0,
 };
 
-/// What is known of a row, with the next note of its coroutine, of this number.
-fn with_note<'a>(mut row: Row<'a>, note: &Note<'a>, number: usize) -> Row<'a> {
-    let begins = note.begins();
-    if row.end == 0 {
-        row.first = number;
+/// So a Job has ended.
+const ENDED: [&[u8]; 3] = [b"completed", b"cancelled", b"failed"];
+
+impl Row {
+    /// The next note of its coroutine, of this number.
+    fn take(&mut self, note: &Note<'_>, number: usize) {
+        let begins = note.begins();
+        if self.end == 0 {
+            self.first = number;
+        }
+        if begins {
+            self.wait = number;
+        }
+        self.waits = begins | (self.waits & !note.is_one_of(SETTLE | WITHDRAW));
+        self.end = number.saturating_add(1);
+        self.left_from = note.left_from;
     }
-    if begins {
-        row.wait = number;
+
+    /// Whether its Job is below this row, and has not ended.
+    pub(crate) fn is_open_below(self, parent: u32) -> bool {
+        self.open & (self.parent == parent)
     }
-    row.waits = begins || (row.waits && !note.is_one_of(SETTLE | WITHDRAW));
-    row.end = number.saturating_add(1);
-    row
 }
 
-pub(crate) fn story_of<'a>(
+/// Adds this many rows of which nothing was told.
+fn add_rows(rows: &mut Gathered<Row>, count: u16) {
+    for _row in 0..count {
+        rows.add(UNTOLD);
+    }
+}
+
+/// Tells the rows of a note.
+fn tell_note(rows: &mut Vec<Row>, note: &Note<'_>, number: usize) {
+    let tag = note.tag as usize;
+    if tag < rows.len() {
+        rows[tag].take(note, number);
+    }
+    let row = note.row(2) as usize;
+    if note.is_one_of(ATTACH) && row < rows.len() {
+        rows[row].parent = note.row(4);
+    }
+}
+
+/// Tells the rows of all notes.
+fn tell_notes(rows: &mut Vec<Row>, notes: &[Note<'_>]) {
+    for (number, note) in notes.iter().enumerate() {
+        tell_note(rows, note, number);
+    }
+}
+
+/// Tells a row of the line of its Job.
+fn tell_job(rows: &mut Vec<Row>, row: usize, line: &[u8]) {
+    let ended = is_in(words_in(line)[2], &ENDED);
+    if row < rows.len() {
+        rows[row].ended = ended;
+        rows[row].open = !ended;
+    }
+}
+
+/// Tells the rows of the lines of the Jobs.
+fn tell_jobs(rows: &mut Vec<Row>, lines: &[Line<'_>]) {
+    for line in lines {
+        if let Said::Job(row) = line.said {
+            tell_job(rows, row as usize, line.text);
+        }
+    }
+}
+
+/// Adds the lines of the books; whether memory ran out as their coroutines were walked.
+fn add_notes<'a>(
     alloc: Global,
-    script: &'a Script,
-    source: &'a [u8],
+    notes: &mut Gathered<Note<'a>>,
+    script: &Script,
     lines: &[Line<'a>],
-) -> Result<Story<'a>, AllocError> {
-    let rows = vec![in alloc; NO_ROW; script.jobs() as usize]?;
-    let mut story = Story {
-        script,
-        source: Source::new(alloc),
-        notes: Gathered::new(alloc),
-        rows,
-        full: false,
-    };
-    story.source.read(source);
-    story.read(lines);
-    story.walk_all(alloc);
-    if story.is_full() {
-        Err(AllocError)
-    } else {
-        Ok(story)
+) -> bool {
+    let mut walk = walk_of(alloc, script);
+    for line in lines {
+        if let Said::Note(tag) = line.said {
+            notes.add(walk.note(tag, line.text));
+        }
     }
-}
-
-/// How many coroutines the script spawns: main attaches them before its first line.
-fn spawned(script: &Script) -> usize {
-    let mut count = 0usize;
-    for spawn in script.spawns() {
-        count = count.saturating_add(spawn.count as usize);
-    }
-    count
+    walk.is_full()
 }
 
 impl<'a> Story<'a> {
-    /// Whether memory ran out.
-    fn is_full(&self) -> bool {
-        self.full || self.source.is_full() || self.notes.full
-    }
-
-    /// Adds what the lines of a report say.
-    fn read(&mut self, lines: &[Line<'a>]) {
-        for line in lines {
-            self.add(line);
+    /// That of a script of whose run nothing was told.
+    pub(crate) fn new(alloc: Global, script: &'a Script) -> Story<'a> {
+        Story {
+            script,
+            source: Source::new(alloc),
+            notes: Gathered::new(alloc),
+            rows: Gathered::new(alloc),
         }
     }
 
-    /// Adds what a line of a report says.
-    fn add(&mut self, line: &Line<'a>) {
-        match line.said {
-            Said::Note(tag) => self.add_note(note_of(tag, line.text)),
-            Said::Job(row) => self.set_state(row, words_in(line.text)[2]),
-            Said::Element => {}
+    /// Adds the lines of the script's text, and what the lines of a report say.
+    pub(crate) fn read(
+        &mut self,
+        alloc: Global,
+        source: &'a [u8],
+        lines: &[Line<'a>],
+    ) -> Result<(), AllocError> {
+        self.source.read(source);
+        let full = add_notes(alloc, &mut self.notes, self.script, lines);
+        add_rows(&mut self.rows, self.script.jobs());
+        tell_notes(self.rows.as_mut(), self.notes.as_slice());
+        tell_jobs(self.rows.as_mut(), lines);
+        if full | self.source.is_full() | self.notes.full | self.rows.full {
+            Err(AllocError)
+        } else {
+            Ok(())
         }
-    }
-
-    fn set_state(&mut self, row: u32, state: &'a [u8]) {
-        let mut known = self.row(row);
-        known.state = state;
-        put(&mut self.rows, row as usize, known);
-    }
-
-    fn add_note(&mut self, note: Note<'a>) {
-        let number = self.notes.as_slice().len();
-        let known = with_note(self.row(note.tag), &note, number);
-        put(&mut self.rows, note.tag as usize, known);
-        self.attach(&note);
-        self.notes.add(note);
-    }
-
-    /// Adds which row is above another, if a note says it.
-    fn attach(&mut self, note: &Note<'a>) {
-        if note.is_one_of(ATTACH)
-            && let Some(row) = note.number(2)
-        {
-            let mut known = self.row(row);
-            known.parent = note.number(4);
-            put(&mut self.rows, row as usize, known);
-        }
-    }
-
-    /// Walks each coroutine over its block.
-    fn walk_all(&mut self, alloc: Global) {
-        let mut walk = walk_of(alloc, self.script, BUDGET);
-        for tag in 0..self.script.coroutines() {
-            self.walk_one(&mut walk, u32::from(tag));
-        }
-        self.full = walk.is_full();
-    }
-
-    fn walk_one(&mut self, walk: &mut Walk<'a>, tag: u32) {
-        let mut known = self.row(tag);
-        let before = if tag == 0 { spawned(self.script) } else { 0 };
-        let own = known.first.saturating_add(before);
-        walk.begin(code_of(self.script, tag));
-        walk_over(walk, self.notes.as_mut(), own, known.end);
-        known.left_from = walk.left_from();
-        put(&mut self.rows, tag as usize, known);
     }
 
     /// What is known of a row.
-    pub(crate) fn row(&self, row: u32) -> Row<'a> {
-        at(self.rows.as_slice(), row as usize, NO_ROW)
+    pub(crate) fn row(&self, row: u32) -> Row {
+        at(self.rows.as_slice(), row as usize, UNTOLD)
     }
 
     /// The lines of the books.
     pub(crate) fn notes(&self) -> &[Note<'a>] {
         self.notes.as_slice()
+    }
+
+    /// The lines of the book of a coroutine.
+    pub(crate) fn notes_of(&self, tag: u32) -> &[Note<'a>] {
+        let row = self.row(tag);
+        between(self.notes.as_slice(), row.first, row.end)
     }
 
     /// The note of this number.
@@ -182,53 +187,21 @@ impl<'a> Story<'a> {
 
     /// The line of the script at which a note was made.
     pub(crate) fn source_of(&self, note: &Note<'a>) -> SourceLine<'a> {
-        self.source_at(note.tag, note.made_at)
-    }
-
-    /// The line of the script that a line of a coroutine's block is.
-    fn source_at(&self, tag: u32, line: usize) -> SourceLine<'a> {
-        if tag < u32::from(self.script.coroutines()) {
-            self.source.line(self.script.coroutine_of(tag as u16), line)
-        } else {
-            NO_LINE
-        }
-    }
-
-    /// Whether a Job has ended, or was never attached.
-    pub(crate) fn has_ended(&self, row: u32) -> bool {
-        is_in(self.row(row).state, b"completed cancelled failed")
-    }
-
-    /// Whether a Job has a line, and has not ended.
-    pub(crate) fn is_open(&self, row: u32) -> bool {
-        !self.row(row).state.is_empty() && !self.has_ended(row)
-    }
-
-    /// Whether a Job is below a row, and has not ended.
-    pub(crate) fn is_open_below(&self, row: u32, parent: u32) -> bool {
-        self.is_open(row) && self.row(row).parent == Some(parent)
+        self.source.line(note.block, note.made_at)
     }
 
     /// The line of the script at which a coroutine waits by this note: that of a select where it waits by a clause.
     pub(crate) fn wait_line(&self, note: &Note<'a>) -> SourceLine<'a> {
-        let code = code_of(self.script, note.tag);
-        self.source_at(note.tag, select_around(code, note.made_at))
+        let code = code_in(self.script, note.block);
+        self.source
+            .line(note.block, select_around(code, note.made_at))
     }
 
     /// The first line of the scope at whose end this note was made.
     pub(crate) fn scope_line(&self, note: &Note<'a>) -> SourceLine<'a> {
-        let code = code_of(self.script, note.tag);
-        self.source_at(note.tag, scope_before(code, note.made_at))
-    }
-}
-
-/// Finds the lines that the notes of these numbers were made at.
-fn walk_over<'a>(walk: &mut Walk<'a>, notes: &mut Vec<Note<'a>>, first: usize, end: usize) {
-    for number in first..end {
-        if number < notes.len() {
-            let line = walk.take(&notes[number]);
-            notes[number].made_at = line;
-        }
+        let code = code_in(self.script, note.block);
+        self.source
+            .line(note.block, scope_before(code, note.made_at))
     }
 }
 
@@ -243,15 +216,15 @@ fn scope_before(code: &[Instruction], end: usize) -> usize {
 }
 
 /// The select of which the line at this place is a clause; else that place.
-fn select_around(code: &[Instruction], line: usize) -> usize {
-    let mut select = line;
-    for (i, other) in code.iter().enumerate() {
-        if i <= line && matches!(*other, Instruction::Select) {
+fn select_around(code: &[Instruction], place: usize) -> usize {
+    if !is_clause(line_at(code, place)) {
+        return place;
+    }
+    let mut select = place;
+    for (i, line) in between(code, 0, place).iter().enumerate() {
+        if matches!(*line, Instruction::Select) {
             select = i;
         }
     }
-    match code.get(line) {
-        Some(Instruction::OnSend { .. } | Instruction::OnReceive { .. }) => select,
-        _ => line,
-    }
+    select
 }

@@ -3,15 +3,18 @@
 //! The lines of a block are passed one after another, and each note is that of the next line that can make it. Notes which are no line's
 //! own, as what a close woke, are passed over.
 
-use crate::notes::{Note, is_in};
+use crate::notes::{Note, is_in, note_of};
 use crate::verbs::{
     ALREADY_CLOSED, ATTACH, AWAIT, CLOSE, DRAIN, DROP, EMPTY, END_BODY, FAIL, FULL, HAND, OFFER,
     PUT, RECEIVE_CLOSED, SAW, SAW_END, SEND_CLOSED, SETTLE, SPENT, SPURN, TAKE, TRY_RECEIVE_CLOSED,
     TRY_SEND_CLOSED, WITHDRAW,
 };
-use gathered::{Gathered, NOWHERE, at};
-use script_reader::{Channel, Instruction, Script, is_end, opens_lines};
+use gathered::{Gathered, NOWHERE, at, between};
+use script_reader::{Instruction, Script, is_end, opens_lines};
 use std::alloc::Global;
+
+/// How many lines may be passed in all, to find those of the notes.
+const BUDGET: u32 = 50_000_000;
 
 /// A line that is open: a repeat with turns left, an each, or a scope.
 #[derive(Clone, Copy)]
@@ -21,9 +24,9 @@ struct Open {
     scope: bool,
 }
 
-/// That of an `end` that closes nothing.
+/// None; that of an `end` that closes nothing.
 const NO_OPEN: Open = Open {
-    head: 0,
+    head: NOWHERE,
     turns: 0,
     scope: false,
 };
@@ -31,10 +34,14 @@ const NO_OPEN: Open = Open {
 /// How far a coroutine got.
 #[derive(Drop)]
 pub(crate) struct Walk<'s> {
+    script: &'s Script,
+    tag: u32,
+    block: u16,
     code: &'s [Instruction],
-    channels: &'s [Channel],
+    /// How many of its notes were made before its first line.
+    before: usize,
     /// The line that is next, or at which it waits.
-    at: usize,
+    next: usize,
     waits: bool,
     /// Its body ended or broke off.
     over: bool,
@@ -48,15 +55,22 @@ pub(crate) struct Walk<'s> {
     budget: u32,
 }
 
-/// What a line says of a note.
+/// What comes of a line and a note.
 #[derive(Clone, Copy)]
-enum Look {
-    /// It is that of this line.
-    Found(usize),
-    /// The line makes none: go on.
-    On,
-    Lost,
+struct Step {
+    /// The line that the note was made at; `SILENT`, if the line makes none; or `NOWHERE`.
+    made_at: usize,
+    /// The line that is next, or at which it waits.
+    next: usize,
+    waits: bool,
+    /// The body broke off.
+    over: bool,
+    /// The line that it enters; or `NO_OPEN`.
+    enters: Open,
 }
+
+/// Where a line makes no note: go on. It is behind all lines.
+const SILENT: usize = usize::MAX - 1;
 
 const SENDS: u32 = HAND | PUT | OFFER | SEND_CLOSED | SPENT;
 
@@ -73,30 +87,71 @@ const OWN: u32 = SENDS
     | ATTACH
     | FAIL;
 
+/// A note of these ends its body.
+const ENDS: u32 = SPENT | FAIL;
+
+/// How a coroutine without a scope of its own is launched.
+const LAUNCHED: [&[u8]; 2] = [b"plain", b"lazy"];
+
+const SCOPES: [&[u8]; 2] = [b"scope", b"supervisor"];
+
+/// So a wait ends that breaks the body off.
+const BROKEN: [&[u8]; 2] = [b"cancelled", b"undelivered"];
+
+// ---- the lines of a block
+
+/// The number of the block that a coroutine runs.
+fn block_of(script: &Script, tag: u32) -> u16 {
+    if tag < u32::from(script.coroutines()) {
+        script.coroutine_of(tag as u16)
+    } else {
+        u16::MAX
+    }
+}
+
+/// The lines of a block.
+pub(crate) fn code_in(script: &Script, block: u16) -> &[Instruction] {
+    match script.blocks().get(block as usize) {
+        Some(coroutine) => coroutine.code.as_slice(),
+        None => &[],
+    }
+}
+
+/// The lines of a coroutine.
+pub(crate) fn code_of(script: &Script, tag: u32) -> &[Instruction] {
+    code_in(script, block_of(script, tag))
+}
+
+/// How many coroutines the script spawns: main attaches them before its first line.
+fn spawned(script: &Script) -> usize {
+    let mut count = 0usize;
+    for spawn in script.spawns() {
+        count = count.saturating_add(spawn.count as usize);
+    }
+    count
+}
+
+/// The line at this place; an `end` behind the last.
+pub(crate) fn line_at(code: &[Instruction], place: usize) -> Instruction {
+    at(code, place, Instruction::End)
+}
+
 /// The place of the `end` that closes what the line at this place opens; behind the last line where there is none.
 pub(crate) fn closing(code: &[Instruction], head: usize) -> usize {
     let mut depth = 0u32;
-    for (i, line) in code.iter().enumerate() {
-        if i > head {
-            if is_end(*line) {
-                if depth == 0 {
-                    return i;
-                }
-                depth -= 1;
-            } else if opens_lines(*line) {
-                depth = depth.saturating_add(1);
+    let mut place = head;
+    for line in between(code, head.saturating_add(1), code.len()) {
+        place = place.saturating_add(1);
+        if is_end(*line) {
+            if depth == 0 {
+                return place;
             }
+            depth -= 1;
+        } else if opens_lines(*line) {
+            depth = depth.saturating_add(1);
         }
     }
     code.len()
-}
-
-/// Whether a word is the name of the channel of this number.
-fn is_channel(channels: &[Channel], c: u16, word: &[u8]) -> bool {
-    match channels.get(c as usize) {
-        Some(channel) => channel.name.as_bytes() == word,
-        None => false,
-    }
 }
 
 /// The verbs of the notes that a line makes on its channel; none for a line without one.
@@ -127,54 +182,217 @@ fn channel_of(line: Instruction) -> u16 {
     }
 }
 
-/// Whether a line is a clause of a select that is on this channel.
-fn is_clause_on(channels: &[Channel], line: Instruction, word: &[u8]) -> bool {
+/// Whether a line is a clause of a select.
+pub(crate) fn is_clause(line: Instruction) -> bool {
     matches!(
         line,
         Instruction::OnSend { .. } | Instruction::OnReceive { .. }
-    ) && is_channel(channels, channel_of(line), word)
+    )
 }
 
-/// A walk that may pass so many lines.
-pub(crate) fn walk_of<'s>(alloc: Global, script: &'s Script, budget: u32) -> Walk<'s> {
+/// The clause of the select at this place that is on this channel.
+fn clause_on(code: &[Instruction], select: usize, channel: u16) -> usize {
+    let mut place = select;
+    for line in between(code, select.saturating_add(1), closing(code, select)) {
+        place = place.saturating_add(1);
+        if is_clause(*line) && channel_of(*line) == channel {
+            return place;
+        }
+    }
+    NOWHERE
+}
+
+// ---- a line and a note
+
+/// A line that is passed: this one is next.
+fn passed(next: usize) -> Step {
+    Step {
+        made_at: SILENT,
+        next,
+        waits: false,
+        over: false,
+        enters: NO_OPEN,
+    }
+}
+
+/// A line that is entered.
+fn entered(made_at: usize, head: usize, turns: u32, scope: bool) -> Step {
+    Step {
+        made_at,
+        next: head.saturating_add(1),
+        waits: false,
+        over: false,
+        enters: Open { head, turns, scope },
+    }
+}
+
+/// A line that made a note, if it is known where: by some verbs it stays, else another line is next; by some the body ends.
+fn made(note: &Note<'_>, made_at: usize, here: usize, stays: u32, next: usize, ends: u32) -> Step {
+    Step {
+        made_at,
+        next: if note.is_one_of(stays) { here } else { next },
+        waits: note.begins(),
+        over: note.is_one_of(ends),
+        enters: NO_OPEN,
+    }
+}
+
+/// A line that stands for itself, and made a note if it is so.
+fn made_if(good: bool, note: &Note<'_>, here: usize) -> Step {
+    let made_at = if good { here } else { NOWHERE };
+    let next = here.saturating_add(1);
+    made(note, made_at, here, AWAIT | OFFER | ENDS, next, ENDS)
+}
+
+/// Whether a line makes a note on its channel.
+fn is_on_channel(line: Instruction, note: &Note<'_>) -> bool {
+    note.is_one_of(verbs_of(line)) & (channel_of(line) == note.channel)
+}
+
+/// Whether a line that stands for itself makes a note.
+fn makes(line: Instruction, note: &Note<'_>) -> bool {
+    match line {
+        Instruction::Launch { .. } => is_in(note.word(7), &LAUNCHED),
+        Instruction::Join { .. } | Instruction::Await { .. } => note.is_done(),
+        Instruction::Fail { .. } => note.is_one_of(FAIL),
+        _ => is_on_channel(line, note),
+    }
+}
+
+fn step_of_scope(note: &Note<'_>, here: usize) -> Step {
+    let good = is_in(note.word(7), &SCOPES);
+    entered(if good { here } else { NOWHERE }, here, 0, true)
+}
+
+fn step_of_each(code: &[Instruction], note: &Note<'_>, here: usize) -> Step {
+    let good = is_on_channel(line_at(code, here), note);
+    let made_at = if good { here } else { NOWHERE };
+    if note.is_one_of(TAKE) {
+        entered(made_at, here, 1, false)
+    } else {
+        made(note, made_at, here, AWAIT, behind(code, here), 0)
+    }
+}
+
+/// The first line behind the block that begins at this one.
+fn behind(code: &[Instruction], head: usize) -> usize {
+    closing(code, head).saturating_add(1)
+}
+
+/// An `end` closes this line: a scope's may be waited for, a repeat has one more turn, and an each is looked at again.
+fn step_of_end(code: &[Instruction], open: Open, note: &Note<'_>, here: usize) -> Step {
+    if open.scope {
+        return made_if(note.is_done(), note, here);
+    }
+    if open.turns == 0 {
+        return passed(here.saturating_add(1));
+    }
+    match line_at(code, open.head) {
+        Instruction::Repeat { .. } => entered(SILENT, open.head, open.turns - 1, false),
+        _ => passed(open.head),
+    }
+}
+
+/// What comes of the line at this place, which closes another if it is an `end`, and a note.
+fn step_of(code: &[Instruction], open: Open, note: &Note<'_>, here: usize) -> Step {
+    let line = line_at(code, here);
+    match line {
+        Instruction::Repeat { turns } => entered(SILENT, here, turns.saturating_sub(1), false),
+        Instruction::Each { .. } => step_of_each(code, note, here),
+        Instruction::Scope { .. } => step_of_scope(note, here),
+        Instruction::Select => {
+            let clause = clause_on(code, here, note.channel);
+            let stays = AWAIT | OFFER | FULL | EMPTY;
+            made(note, clause, here, stays, behind(code, here), 0)
+        }
+        Instruction::End => step_of_end(code, open, note, here),
+        Instruction::Yield
+        | Instruction::Start { .. }
+        | Instruction::Cancel { .. }
+        | Instruction::SetResult { .. }
+        | Instruction::OnSend { .. }
+        | Instruction::OnReceive { .. } => passed(here.saturating_add(1)),
+        _ => made_if(makes(line, note), note, here),
+    }
+}
+
+/// What comes of the end of a wait at the line at this place, if it ended so.
+fn step_of_settle(code: &[Instruction], how: &[u8], revoked: bool, here: usize) -> Step {
+    let line = line_at(code, here);
+    let is_select = matches!(line, Instruction::Select);
+    let is_each = matches!(line, Instruction::Each { .. });
+    let breaks = is_in(how, &BROKEN);
+    if is_each & !breaks & (how != b"closed".as_slice()) {
+        return entered(here, here, 1, false);
+    }
+    let leaves = is_select | is_each;
+    let next = if leaves {
+        behind(code, here)
+    } else {
+        here.saturating_add(1)
+    };
+    Step {
+        made_at: here,
+        next: if breaks { here } else { next },
+        waits: false,
+        over: breaks & (!is_select | !revoked),
+        enters: NO_OPEN,
+    }
+}
+
+/// Whether a body ended by a note, or saw an end that breaks it off. That of a scope ends by a note on the scope's row.
+fn breaks_off(note: &Note<'_>) -> bool {
+    note.is_one_of(SAW)
+        | (note.is_one_of(END_BODY) & (note.row(2) == note.tag))
+        | (note.is_one_of(SAW_END) & (note.word(3) != b"completed".as_slice()))
+}
+
+// ---- the walk
+
+/// A walk over the blocks of a script that has not begun.
+pub(crate) fn walk_of<'s>(alloc: Global, script: &'s Script) -> Walk<'s> {
     Walk {
+        script,
+        tag: u32::MAX,
+        block: u16::MAX,
         code: &[],
-        channels: script.channels(),
-        at: 0,
+        before: 0,
+        next: 0,
         waits: false,
         over: false,
         lost: false,
         revoked: false,
         last: NOWHERE,
         open: Gathered::new(alloc),
-        budget,
-    }
-}
-
-/// The lines of a coroutine.
-pub(crate) fn code_of(script: &Script, tag: u32) -> &[Instruction] {
-    if tag < u32::from(script.coroutines()) {
-        let block = script.coroutine_of(tag as u16);
-        match script.blocks().get(block as usize) {
-            Some(coroutine) => coroutine.code.as_slice(),
-            None => &[],
-        }
-    } else {
-        &[]
+        budget: BUDGET,
     }
 }
 
 impl<'s> Walk<'s> {
-    /// Goes to the first of these lines.
-    pub(crate) fn begin(&mut self, code: &'s [Instruction]) {
-        self.code = code;
-        self.at = 0;
+    /// The next note of the books, which a coroutine made: they are in the order of its coroutines.
+    pub(crate) fn note<'a>(&mut self, tag: u32, line: &'a [u8]) -> Note<'a> {
+        if tag != self.tag {
+            self.begin(tag);
+        }
+        let mut note = note_of(self.script.channels(), tag, self.block, line);
+        note.made_at = self.take(&note);
+        note.left_from = self.left_from();
+        note
+    }
+
+    /// Goes to the first line of a coroutine.
+    fn begin(&mut self, tag: u32) {
+        self.tag = tag;
+        self.block = block_of(self.script, tag);
+        self.code = code_in(self.script, self.block);
+        self.before = if tag == 0 { spawned(self.script) } else { 0 };
+        self.next = 0;
         self.waits = false;
         self.over = false;
         self.lost = false;
         self.revoked = false;
         self.last = NOWHERE;
-        self.open.as_mut().clear();
+        self.open.clear();
     }
 
     /// Whether memory ran out.
@@ -182,18 +400,8 @@ impl<'s> Walk<'s> {
         self.open.full
     }
 
-    /// The line that is next; an `end` behind the last.
-    fn line(&self) -> Instruction {
-        at(self.code, self.at, Instruction::End)
-    }
-
-    /// The first line behind the block that begins at the line that is next.
-    fn behind_block(&self) -> usize {
-        closing(self.code, self.at).saturating_add(1)
-    }
-
     /// The first line that may still be run.
-    pub(crate) fn left_from(&self) -> usize {
+    fn left_from(&self) -> usize {
         if self.over {
             return self.code.len();
         }
@@ -206,25 +414,23 @@ impl<'s> Walk<'s> {
             }
         }
         if self.waits {
-            self.at.saturating_add(1)
+            self.next.saturating_add(1)
         } else {
-            self.at
+            self.next
         }
     }
 
     /// The line that a note was made at, if that can be told.
-    pub(crate) fn take(&mut self, note: &Note<'_>) -> usize {
-        if note.is_one_of(OWN) && !self.closes_done(note) {
-            self.last = self.made_at(note);
-            self.last
-        } else {
-            self.pass(note);
-            self.given_up(note)
+    fn take(&mut self, note: &Note<'_>) -> usize {
+        if self.before > 0 {
+            self.before -= 1;
+            return NOWHERE;
         }
-    }
-
-    /// The line of a note by which its coroutine gives up an element: that of the note before.
-    fn given_up(&self, note: &Note<'_>) -> usize {
+        if note.is_one_of(OWN) & !(note.is_one_of(CLOSE) & note.is_done()) {
+            self.last = self.made_at(note);
+            return self.last;
+        }
+        self.pass(note);
         if note.is_one_of(DROP | SPURN | DRAIN) {
             self.last
         } else {
@@ -234,236 +440,79 @@ impl<'s> Walk<'s> {
 
     /// Passes a note that is no line's own.
     fn pass(&mut self, note: &Note<'_>) {
-        if note.is_one_of(SETTLE) {
-            self.settle(note.word(3));
+        if note.is_one_of(SETTLE) & self.waits {
+            let step = step_of_settle(self.code, note.word(3), self.revoked, self.next);
+            self.waits = false;
+            self.revoked = false;
+            self.go(step);
         }
         if note.is_one_of(WITHDRAW) {
             self.revoked = note.word(3) == b"revoked".as_slice();
         }
-        self.over = self.over || self.breaks_off(note);
+        self.over = self.over | breaks_off(note);
     }
 
-    /// Whether its body ended by it, or saw an end that breaks it off. That of a scope ends by a note on the scope's row.
-    fn breaks_off(&self, note: &Note<'_>) -> bool {
-        note.is_one_of(SAW)
-            || (note.is_one_of(END_BODY) && note.number(2) == Some(note.tag))
-            || (note.is_one_of(SAW_END) && note.word(3) != b"completed".as_slice())
-    }
-
-    /// Whether it closes the done channel of a Job, which no line does.
-    fn closes_done(&self, note: &Note<'_>) -> bool {
-        note.is_one_of(CLOSE) && note.is_done()
-    }
-
-    /// The line that a note of a line was made at.
+    /// The line that a note of a line was made at. A body that broke off waits for the ends of its scopes.
     fn made_at(&mut self, note: &Note<'_>) -> usize {
-        if !self.over {
-            self.find(note)
-        } else if note.is_one_of(AWAIT | RECEIVE_CLOSED) && note.is_done() {
-            self.unwind()
-        } else {
-            NOWHERE
+        if self.over {
+            if note.is_one_of(AWAIT | RECEIVE_CLOSED) & note.is_done() {
+                return self.unwind();
+            }
+        } else if !self.lost {
+            return self.find(note);
         }
+        NOWHERE
     }
 
-    /// The `end` of the innermost scope, whose end a body that broke off waits for.
+    /// The `end` of the innermost scope.
     fn unwind(&mut self) -> usize {
-        for _open in 0..self.open.as_slice().len() {
-            match self.open.as_mut().pop() {
-                Some(open) if open.scope => return closing(self.code, open.head),
-                _ => {}
+        for _open in 0..self.open.len() {
+            if let Some(open) = self.open.pop()
+                && open.scope
+            {
+                return closing(self.code, open.head);
             }
         }
         NOWHERE
     }
 
     fn find(&mut self, note: &Note<'_>) -> usize {
-        for _step in 0..u32::MAX {
-            if self.lost || self.budget == 0 {
+        for _step in 0..self.budget {
+            self.budget = self.budget.saturating_sub(1);
+            if self.next >= self.code.len() {
                 break;
             }
-            self.budget -= 1;
-            match self.look(note) {
-                Look::Found(line) => return line,
-                Look::On => {}
-                Look::Lost => break,
+            let open = self.close();
+            let step = step_of(self.code, open, note, self.next);
+            if step.made_at == NOWHERE {
+                break;
+            }
+            self.go(step);
+            if step.made_at != SILENT {
+                return step.made_at;
             }
         }
         self.lost = true;
         NOWHERE
     }
 
-    /// What the line that is next says of a note.
-    fn look(&mut self, note: &Note<'_>) -> Look {
-        if self.at >= self.code.len() {
-            return Look::Lost;
+    /// What the line that is next closes, if it is an `end`.
+    fn close(&mut self) -> Open {
+        if !is_end(line_at(self.code, self.next)) {
+            return NO_OPEN;
         }
-        let line = self.line();
-        match line {
-            Instruction::Repeat { turns } => {
-                self.enter(turns.saturating_sub(1), false);
-                Look::On
-            }
-            Instruction::Each { .. } => self.look_at_each(line, note),
-            Instruction::Scope { .. } => self.look_at_scope(note),
-            Instruction::Select => self.look_at_select(note),
-            Instruction::End => self.look_at_end(note),
-            Instruction::Yield
-            | Instruction::Start { .. }
-            | Instruction::Cancel { .. }
-            | Instruction::SetResult { .. }
-            | Instruction::OnSend { .. }
-            | Instruction::OnReceive { .. } => {
-                self.go_on();
-                Look::On
-            }
-            _ => {
-                let good = self.makes(line, note);
-                self.found_if(good, note)
-            }
-        }
-    }
-
-    /// Whether a line that stands for itself makes a note.
-    fn makes(&self, line: Instruction, note: &Note<'_>) -> bool {
-        match line {
-            Instruction::Launch { .. } => is_in(note.word(7), b"plain lazy"),
-            Instruction::Join { .. } | Instruction::Await { .. } => note.is_done(),
-            Instruction::Fail { .. } => note.is_one_of(FAIL),
-            _ => self.is_on_channel(line, note),
-        }
-    }
-
-    /// Whether a line makes a note on its channel.
-    fn is_on_channel(&self, line: Instruction, note: &Note<'_>) -> bool {
-        note.is_one_of(verbs_of(line)) && is_channel(self.channels, channel_of(line), note.word(2))
-    }
-
-    fn go_on(&mut self) {
-        self.at = self.at.saturating_add(1);
-    }
-
-    /// Enters the line that is next.
-    fn enter(&mut self, turns: u32, scope: bool) {
-        self.open.add(Open {
-            head: self.at,
-            turns,
-            scope,
-        });
-        self.go_on();
-    }
-
-    /// The note is that of this line if it is so; then the line is passed, or waits.
-    fn found_if(&mut self, good: bool, note: &Note<'_>) -> Look {
-        if !good {
-            return Look::Lost;
-        }
-        let here = self.at;
-        if note.begins() {
-            self.waits = true;
-        } else if note.is_one_of(SPENT | FAIL) {
-            self.over = true;
-        } else {
-            self.go_on();
-        }
-        Look::Found(here)
-    }
-
-    fn look_at_scope(&mut self, note: &Note<'_>) -> Look {
-        if !is_in(note.word(7), b"scope supervisor") {
-            return Look::Lost;
-        }
-        let here = self.at;
-        self.enter(0, true);
-        Look::Found(here)
-    }
-
-    fn look_at_each(&mut self, line: Instruction, note: &Note<'_>) -> Look {
-        if !self.is_on_channel(line, note) {
-            return Look::Lost;
-        }
-        let here = self.at;
-        if note.is_one_of(AWAIT) {
-            self.waits = true;
-        } else if note.is_one_of(TAKE) {
-            self.enter(1, false);
-        } else {
-            self.at = self.behind_block();
-        }
-        Look::Found(here)
-    }
-
-    fn look_at_end(&mut self, note: &Note<'_>) -> Look {
-        let open = match self.open.as_mut().pop() {
+        match self.open.pop() {
             Some(open) => open,
             None => NO_OPEN,
-        };
-        if open.scope {
-            return self.found_if(note.is_done(), note);
-        }
-        if open.turns > 0 {
-            self.turn(open);
-        } else {
-            self.go_on();
-        }
-        Look::On
-    }
-
-    /// Begins one more turn of a repeat, or looks at an each again.
-    fn turn(&mut self, open: Open) {
-        self.at = open.head;
-        if matches!(self.line(), Instruction::Repeat { .. }) {
-            self.enter(open.turns.saturating_sub(1), open.scope);
         }
     }
 
-    /// The clause of a select that is on this channel.
-    fn clause(&self, word: &[u8]) -> usize {
-        let end = closing(self.code, self.at);
-        for (i, line) in self.code.iter().enumerate() {
-            if i > self.at && i < end && is_clause_on(self.channels, *line, word) {
-                return i;
-            }
-        }
-        NOWHERE
-    }
-
-    fn look_at_select(&mut self, note: &Note<'_>) -> Look {
-        let clause = self.clause(note.word(2));
-        if clause == NOWHERE {
-            return Look::Lost;
-        }
-        if note.begins() {
-            self.waits = true;
-        } else if !note.is_one_of(FULL | EMPTY) {
-            self.at = self.behind_block();
-        }
-        Look::Found(clause)
-    }
-
-    /// A wait ended so.
-    fn settle(&mut self, how: &[u8]) {
-        if !self.waits {
-            return;
-        }
-        self.waits = false;
-        let line = self.line();
-        self.go_on_from(line, how);
-        self.revoked = false;
-    }
-
-    /// Goes on from the line at which a wait ended so.
-    fn go_on_from(&mut self, line: Instruction, how: &[u8]) {
-        let is_select = matches!(line, Instruction::Select);
-        let is_each = matches!(line, Instruction::Each { .. });
-        if is_in(how, b"cancelled undelivered") {
-            self.over = self.over || !is_select || !self.revoked;
-        } else if is_select || (is_each && how == b"closed".as_slice()) {
-            self.at = self.behind_block();
-        } else if is_each {
-            self.enter(1, false);
-        } else {
-            self.go_on();
+    fn go(&mut self, step: Step) {
+        self.next = step.next;
+        self.waits = self.waits | step.waits;
+        self.over = self.over | step.over;
+        if step.enters.head != NOWHERE {
+            self.open.add(step.enters);
         }
     }
 }
