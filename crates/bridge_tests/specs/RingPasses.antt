@@ -9,6 +9,10 @@ module _ {T : Type 0} where
   abbrev pub IsMain : Ring T → RingPass T → Type 0
   IsMain ring pass = IsOf ring pass × IsFirst pass × ((seen_by pass).given ≡ 2 ∷ 1 ∷ 0 ∷ []) × ((seen_by pass).tags ≡ 0 ∷ [])
 
+  -- the only one so far, which gives out the tags of others
+  abbrev pub IsNew : Ring T → RingPass T → Type 0
+  IsNew ring pass = IsOf ring pass × IsFirst pass × ((seen_by pass).given ≡ 0 ∷ []) × ((seen_by pass).tags ≡ 0 ∷ [])
+
   -- one of the others
   abbrev pub IsOther : ℕ → Ring T → RingPass T → Type 0
   IsOther t ring pass = IsOf ring pass × ((seen_by pass).tags ≡ t ∷ [])

@@ -5,8 +5,9 @@ ghost use Rattle.job_model.specs.Histories.{replay};
 ghost use Rattle.cell_words.specs.Hubs.{shape_of, IsOwn};
 ghost use Rattle.job_words.specs.Forests.{IsOwn as IsOwnOfJobs};
 ghost use Rattle.future_bridge.specs.Jobs.{jobs_seen};
+ghost use Rattle.bridge_tests.specs.Families.{IsFamily};
 
-use crate::jobs::is_finished;
+use crate::jobs::{is_attached_and_ended, is_finished, new_family, sees_child};
 use cell_calls::Desk;
 use cell_words::{Hub, Pass};
 use channel_calls::Caller;
@@ -15,7 +16,7 @@ use future_bridge::Spent;
 use job_words::{Forest, JobPass};
 use note_book::Notes;
 use ring_bridge::Bells;
-use std::alloc::Global;
+use std::alloc::{AllocGlobal, Global};
 use std::sync::Wait;
 use std::thread::{Threads, join, sleep};
 use std::time::{Clock, Duration};
@@ -80,23 +81,24 @@ fn awaits<R: Wait>(
     result
 }
 
-/// Whether the root has 9 of the Job, which ends meanwhile.
-pub(crate) fn awaited_meanwhile<R: Threads + Wait + Sync + Clock>(
+/// Whether the root has 9 of the Job, which it attaches, and which ends meanwhile.
+fn awaited_meanwhile<R: Threads + Wait + Sync + Clock>(
     rt: &R,
     hub: &Hub,
-    forest: &Forest,
-    root: (Pass, JobPass),
-    child: (Pass, JobPass),
-    alloc: Global,
     bells: &Bells,
+    forest: &Forest,
+    alloc: Global,
+    root: Pass,
+    mut root_jobs: JobPass,
+    mut child: Pass,
+    mut child_jobs: JobPass,
 ) -> bool
-    requires shape { shape_of hub.now ≡ (Signal, 1) ∷ (Signal, 1) ∷ [] }
-    requires size { forest.now.size.coroutines ≡ 2 }
-    requires root { IsOwn hub.now root.0 0 × IsOwnOfJobs forest.now root.1 0 }
-    requires attached { is_some (replay (jobs_seen root.1).seen 1) ≡ true }
-    requires child { IsOwn hub.now child.0 1 × IsOwnOfJobs forest.now child.1 1 }
+    requires family { IsFamily hub.now forest.now root root_jobs child child_jobs }
 {
-    let ((root, root_jobs), (mut child, mut child_jobs)) = (root, child);
+    let ready = is_attached_and_ended(alloc, forest, &mut root_jobs, &mut child_jobs);
+    if !sees_child(forest, &mut root_jobs, &mut child_jobs) {
+        return false;
+    }
     let (result, ended) = join(
         rt,
         || -> Result<Value, Spent>
@@ -112,5 +114,19 @@ pub(crate) fn awaited_meanwhile<R: Threads + Wait + Sync + Clock>(
             requires jobs { IsOwnOfJobs forest.now child_jobs 1 }
         { end_later(rt, hub, &mut child, forest, &mut child_jobs, alloc, bells) },
     );
-    ended && matches!(result, Ok(9))
+    ready & ended & matches!(result, Ok(9))
+}
+
+/// A thread sleeps until the Job that it awaits has ended.
+pub(crate) fn sleeps<R: Threads + Wait + Sync + Clock + AllocGlobal>(
+    rt: &R,
+    bells: &Bells,
+) -> bool {
+    let alloc = rt.alloc();
+    match new_family(alloc) {
+        Ok((hub, forest, root, root_jobs, child, child_jobs)) => awaited_meanwhile(
+            rt, &hub, bells, &forest, alloc, root, root_jobs, child, child_jobs,
+        ),
+        Err(_) => false,
+    }
 }

@@ -5,9 +5,10 @@ ghost use Rattle.cell_words.specs.Hubs.{shape_of, IsOwn};
 ghost use Rattle.bridge_tests.specs.HubPasses.{AreTwo};
 
 use crate::pass_calls::end;
+use crate::streams::collects;
 use cell_words::{Hub, Pass};
 use co_base::Value;
-use future_bridge::{HostDrive, Spent, collect_all, send_list};
+use future_bridge::{HostDrive, ListFault, SinkFault, send_list};
 use std::alloc::{AllocGlobal, Global};
 use std::random::RandomSource;
 use std::sync::Wait;
@@ -16,21 +17,22 @@ use std::thread::{Threads, join};
 /// How many elements are sent.
 const ELEMENTS: u32 = 10_000;
 
-/// Sends a list on channel 0, and closes it.
+/// Sends a list on channel 0, and closes it. Answers whether it did, and else the fault of the sink, if there was one.
 pub(crate) fn send_all<R: Wait + RandomSource + AllocGlobal>(
     rt: &R,
     hub: &Hub,
     pass: Pass,
     values: &[Value],
-) -> bool
+) -> (bool, Option<SinkFault>)
     requires own { IsOwn hub.now pass 1 }
     requires channel { 0 < length (shape_of hub.now) }
     requires kind { is_signal (kind_at (shape_of hub.now) 0) ≡ false }
 {
     let mut host = HostDrive::new(rt);
     match send_list(&mut host, hub, pass, 1, 0, values) {
-        Ok(mut pass) => end(hub, &mut pass, 1, 0),
-        Err(_fault) => false,
+        Ok(mut pass) => (end(hub, &mut pass, 1, 0), None),
+        Err(ListFault::Sink { pass: _pass, fault }) => (false, Some(fault)),
+        Err(ListFault::Failed) => (false, None),
     }
 }
 
@@ -43,30 +45,6 @@ fn numbers(alloc: Global, below: u32) -> Option<Vec<Value>> {
         }
     }
     Some(values)
-}
-
-/// Whether these are as many numbers from 0 on.
-fn are_numbers(items: &[Result<Value, Spent>]) -> bool {
-    let mut due = 0u32;
-    for item in items {
-        if *item != Ok(due) {
-            return false;
-        }
-        due = due.wrapping_add(1);
-    }
-    due == ELEMENTS
-}
-
-/// Whether all elements of channel 0 are those.
-fn receive_all<R: Wait + RandomSource + AllocGlobal>(rt: &R, hub: &Hub, pass: Pass) -> bool
-    requires own { IsOwn hub.now pass 2 }
-    requires channel { 0 < length (shape_of hub.now) }
-{
-    let mut host = HostDrive::new(rt);
-    match collect_all(rt.alloc(), &mut host, hub, pass, 2, 0) {
-        Ok((_pass, items)) => are_numbers(items.as_slice()),
-        Err(_fault) => false,
-    }
 }
 
 /// Both at once.
@@ -88,11 +66,11 @@ fn by_two<R: Threads + Wait + RandomSource + AllocGlobal + Sync>(
             requires own { IsOwn hub.now a 1 }
             requires channel { 0 < length (shape_of hub.now) }
             requires kind { is_signal (kind_at (shape_of hub.now) 0) ≡ false }
-        { send_all(rt, hub, a, values) },
+        { send_all(rt, hub, a, values).0 },
         || -> bool
             requires own { IsOwn hub.now b 2 }
             requires channel { 0 < length (shape_of hub.now) }
-        { receive_all(rt, hub, b) },
+        { collects(rt, hub, b, 2, values, false) },
     )
 }
 
@@ -109,5 +87,5 @@ pub(crate) fn come<R: Threads + Wait + RandomSource + AllocGlobal + Sync>(
         return false;
     };
     let (sent, received) = by_two(rt, hub, one, two, values.as_slice());
-    sent && received
+    sent & received
 }

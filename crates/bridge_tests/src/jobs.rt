@@ -7,7 +7,7 @@ ghost use Rattle.job_words.specs.Forests.{IsOwn as IsOwnOfJobs};
 ghost use Rattle.future_bridge.specs.Jobs.{FutureStands, jobs_seen};
 ghost use Rattle.bridge_tests.specs.Families.{IsFamily};
 
-use crate::asleep::awaited_meanwhile;
+use crate::asleep::sleeps;
 use crate::job_calls::sees_job;
 use crate::pass_calls::{end_at, meet_passes};
 use cell_calls::{close, receive};
@@ -27,39 +27,25 @@ use std::sync::Wait;
 use std::thread::Threads;
 use std::time::Clock;
 
-/// The passes of the root and of the other coroutine.
-#[derive(Drop)]
-pub(crate) struct Family {
-    pub root: Pass,
-    pub root_jobs: JobPass,
-    pub child: Pass,
-    pub child_jobs: JobPass,
-}
-
 /// What is checked: the functions of these names.
 #[derive(Clone, Copy)]
 enum Check {
     AJobThatEndsWhileItsFutureWaitsGivesItsResult,
     AJobThatEndedGivesItsResult,
     AJobWhoseDoneChannelIsSpentGivesNoResult,
-    AThreadSleepsUntilTheJobThatItAwaitsHasEnded,
 }
 
-/// Two done channels of one place and two coroutines, of which the root has attached none.
-fn new_family(alloc: Global) -> Result<(Hub, Forest, Family), Memory>
-    ensures family { IfOk result (λ r. IsFamily r.0 r.1 r.2.root r.2.root_jobs r.2.child r.2.child_jobs) }
+/// Two done channels of one place and two coroutines, of which the root has attached none: the passes of the root, and of the other.
+pub(crate) fn new_family(
+    alloc: Global,
+) -> Result<(Hub, Forest, Pass, JobPass, Pass, JobPass), Memory>
+    ensures family { IfOk result (λ r. IsFamily r.0 r.1 r.2 r.3 r.4 r.5) }
 {
     let (hub, mut root) = Hub::new(alloc, &[(Kind::Signal, 1), (Kind::Signal, 1)])?;
     let child = hub.split(&mut root, 1);
     let (forest, mut root_jobs) = new_forest(alloc, 2, 0)?;
     let child_jobs = split_off(&forest, &mut root_jobs, 1);
-    let family = Family {
-        root,
-        root_jobs,
-        child,
-        child_jobs,
-    };
-    Ok((hub, forest, family))
+    Ok((hub, forest, root, root_jobs, child, child_jobs))
 }
 
 /// The kind of the other coroutine's Job.
@@ -70,7 +56,7 @@ const PLAIN: JobKind = JobKind {
 };
 
 /// The root attaches the other coroutine, whose body then ends with 9: whether the tag was free, and no child lives.
-fn is_attached_and_ended(
+pub(crate) fn is_attached_and_ended(
     alloc: Global,
     forest: &Forest,
     root: &mut JobPass,
@@ -104,7 +90,7 @@ fn is_attached_and_ended(
             cancelled: false,
         })))
     );
-    free && matches!(ended, Ok(Answer::Ended(Ended::Owes)))
+    free & matches!(ended, Ok(Answer::Ended(Ended::Owes)))
 }
 
 /// Ends the Job of the other coroutine. Answers whether it had not ended.
@@ -121,7 +107,7 @@ pub(crate) fn is_finished(alloc: Global, forest: &Forest, child: &mut JobPass) -
 }
 
 /// Whether the root has seen the other coroutine attached, once the two have met.
-fn sees_child(forest: &Forest, root: &mut JobPass, child: &mut JobPass) -> bool
+pub(crate) fn sees_child(forest: &Forest, root: &mut JobPass, child: &mut JobPass) -> bool
     requires root { IsOwnOfJobs forest.now root.old 0 }
     requires child { IsOwnOfJobs forest.now child.old 1 }
     ensures root { IsOwnOfJobs forest.now root.new 0 }
@@ -215,24 +201,21 @@ fn ends_while_awaited<R: Wait + RandomSource + AllocGlobal>(
     rt: &R,
     hub: &Hub,
     forest: &Forest,
-    family: Family,
+    root: Pass,
+    mut root_jobs: JobPass,
+    child: &mut Pass,
+    child_jobs: &mut JobPass,
 ) -> bool
-    requires family { IsFamily hub.now forest.now family.root family.root_jobs family.child family.child_jobs }
+    requires family { IsFamily hub.now forest.now root root_jobs child.old child_jobs.old }
 {
-    let Family {
-        root,
-        mut root_jobs,
-        mut child,
-        mut child_jobs,
-    } = family;
-    if !sees_child(forest, &mut root_jobs, &mut child_jobs) {
+    if !sees_child(forest, &mut root_jobs, child_jobs) {
         return false;
     }
     let mut held = Some(JobFuture::new(hub, root, forest, root_jobs, 0, 0, 1));
     let waits = polled(rt, &mut held).is_none();
     let still = polled(rt, &mut held).is_none();
-    let finished = is_finished(rt.alloc(), forest, &mut child_jobs);
-    let open = end_at(hub, &mut child, 1, 1, 9);
+    let finished = is_finished(rt.alloc(), forest, child_jobs);
+    let open = end_at(hub, child, 1, 1, 9);
     let result = polled(rt, &mut held);
     waits & still & finished & open & matches!(result, Some(Ok(9)))
 }
@@ -242,21 +225,18 @@ fn ended_before<R: Wait + RandomSource + AllocGlobal>(
     rt: &R,
     hub: &Hub,
     forest: &Forest,
-    family: Family,
+    mut root: Pass,
+    mut root_jobs: JobPass,
+    child: &mut Pass,
+    child_jobs: &mut JobPass,
 ) -> bool
-    requires family { IsFamily hub.now forest.now family.root family.root_jobs family.child family.child_jobs }
+    requires family { IsFamily hub.now forest.now root root_jobs child.old child_jobs.old }
 {
-    let Family {
-        mut root,
-        mut root_jobs,
-        mut child,
-        mut child_jobs,
-    } = family;
-    meet_both(forest, &mut root_jobs, 0, &mut child_jobs, 1);
-    let finished = is_finished(rt.alloc(), forest, &mut child_jobs);
-    meet_passes(hub, &mut root, 0, &mut child, 1);
-    let closed = close(hub, &mut child, 1, 1, 9).is_ok();
-    let result = awaited(rt, hub, root, forest, root_jobs, &mut child_jobs);
+    meet_both(forest, &mut root_jobs, 0, child_jobs, 1);
+    let finished = is_finished(rt.alloc(), forest, child_jobs);
+    meet_passes(hub, &mut root, 0, child, 1);
+    let closed = close(hub, child, 1, 1, 9).is_ok();
+    let result = awaited(rt, hub, root, forest, root_jobs, child_jobs);
     finished & closed & matches!(result, Some(Ok(9)))
 }
 
@@ -265,105 +245,73 @@ fn spent_before<R: Wait + RandomSource + AllocGlobal>(
     rt: &R,
     hub: &Hub,
     forest: &Forest,
-    family: Family,
+    mut root: Pass,
+    root_jobs: JobPass,
+    child: &mut Pass,
+    child_jobs: &mut JobPass,
 ) -> bool
-    requires family { IsFamily hub.now forest.now family.root family.root_jobs family.child family.child_jobs }
+    requires family { IsFamily hub.now forest.now root root_jobs child.old child_jobs.old }
 {
-    let Family {
-        mut root,
-        root_jobs,
-        mut child,
-        mut child_jobs,
-    } = family;
-    meet_passes(hub, &mut root, 0, &mut child, 1);
-    let waits = receive(hub, &mut child, 1, 1);
-    let result = awaited(rt, hub, root, forest, root_jobs, &mut child_jobs);
+    meet_passes(hub, &mut root, 0, child, 1);
+    let waits = receive(hub, child, 1, 1);
+    let result = awaited(rt, hub, root, forest, root_jobs, child_jobs);
     matches!(waits, Got::Waiting(0)) & matches!(result, Some(Err(Spent)))
 }
 
-/// A thread sleeps until the Job that it awaits has ended.
-fn sleeps<R: Threads + Wait + Sync + Clock + AllocGlobal>(
-    rt: &R,
-    hub: &Hub,
-    forest: &Forest,
-    bells: &Bells,
-    family: Family,
-) -> bool
-    requires family { IsFamily hub.now forest.now family.root family.root_jobs family.child family.child_jobs }
-{
-    let Family {
-        root,
-        mut root_jobs,
-        child,
-        mut child_jobs,
-    } = family;
-    if !sees_child(forest, &mut root_jobs, &mut child_jobs) {
-        return false;
-    }
-    let (mine, its) = ((root, root_jobs), (child, child_jobs));
-    awaited_meanwhile(rt, hub, forest, mine, its, rt.alloc(), bells)
-}
-
 /// Whether this check went as its name says, once the root has attached the other coroutine, whose body has ended.
-fn went<R: Threads + Wait + RandomSource + Sync + Clock + AllocGlobal>(
+fn went<R: Wait + RandomSource + AllocGlobal>(
     rt: &R,
     hub: &Hub,
     forest: &Forest,
-    bells: &Bells,
-    family: Family,
+    root: Pass,
+    mut root_jobs: JobPass,
+    child: &mut Pass,
+    child_jobs: &mut JobPass,
     check: Check,
 ) -> bool
-    requires family { IsFamily hub.now forest.now family.root family.root_jobs family.child family.child_jobs }
+    requires family { IsFamily hub.now forest.now root root_jobs child.old child_jobs.old }
 {
-    let mut family = family;
-    let ready = is_attached_and_ended(
-        rt.alloc(),
-        forest,
-        &mut family.root_jobs,
-        &mut family.child_jobs,
-    );
+    let ready = is_attached_and_ended(rt.alloc(), forest, &mut root_jobs, child_jobs);
     let went = match check {
         Check::AJobThatEndsWhileItsFutureWaitsGivesItsResult => {
-            ends_while_awaited(rt, hub, forest, family)
+            ends_while_awaited(rt, hub, forest, root, root_jobs, child, child_jobs)
         }
-        Check::AJobThatEndedGivesItsResult => ended_before(rt, hub, forest, family),
-        Check::AJobWhoseDoneChannelIsSpentGivesNoResult => spent_before(rt, hub, forest, family),
-        Check::AThreadSleepsUntilTheJobThatItAwaitsHasEnded => {
-            sleeps(rt, hub, forest, bells, family)
+        Check::AJobThatEndedGivesItsResult => {
+            ended_before(rt, hub, forest, root, root_jobs, child, child_jobs)
+        }
+        Check::AJobWhoseDoneChannelIsSpentGivesNoResult => {
+            spent_before(rt, hub, forest, root, root_jobs, child, child_jobs)
         }
     };
     ready & went
 }
 
 /// The same of a family of its own.
-fn goes<R: Threads + Wait + RandomSource + Sync + Clock + AllocGlobal>(
-    rt: &R,
-    bells: &Bells,
-    check: Check,
-) -> bool {
+fn goes<R: Wait + RandomSource + AllocGlobal>(rt: &R, check: Check) -> bool {
     match new_family(rt.alloc()) {
-        Ok((hub, forest, family)) => went(rt, &hub, &forest, bells, family, check),
+        Ok((hub, forest, root, root_jobs, mut child, mut child_jobs)) => went(
+            rt,
+            &hub,
+            &forest,
+            root,
+            root_jobs,
+            &mut child,
+            &mut child_jobs,
+            check,
+        ),
         Err(_) => false,
     }
 }
 
-/// Whether each check went as its name says.
+/// Whether each check went as its name says, and a thread sleeps until the Job that it awaits has ended.
 pub(crate) fn found<R: Threads + Wait + RandomSource + Sync + Clock + AllocGlobal>(
     rt: &R,
     bells: &Bells,
 ) -> [bool; 4] {
     [
-        goes(
-            rt,
-            bells,
-            Check::AJobThatEndsWhileItsFutureWaitsGivesItsResult,
-        ),
-        goes(rt, bells, Check::AJobThatEndedGivesItsResult),
-        goes(rt, bells, Check::AJobWhoseDoneChannelIsSpentGivesNoResult),
-        goes(
-            rt,
-            bells,
-            Check::AThreadSleepsUntilTheJobThatItAwaitsHasEnded,
-        ),
+        goes(rt, Check::AJobThatEndsWhileItsFutureWaitsGivesItsResult),
+        goes(rt, Check::AJobThatEndedGivesItsResult),
+        goes(rt, Check::AJobWhoseDoneChannelIsSpentGivesNoResult),
+        sleeps(rt, bells),
     ]
 }

@@ -2,7 +2,7 @@
 //! channels of owned values and of rings.
 //!
 //! - `pass_calls`: offers, receives and closes of one pass
-//! - `one_channel`: the checks of `streams`, `lists`, `together` and `at_once`; and all checks of what waits on channels over words
+//! - `one_channel`: the checks of `streams`, `lists`, `together` and `at_once`
 //! - `streams`: what streams give
 //! - `lists`: what comes of a list that is sent
 //! - `together`: a sender and a receiver under one drive
@@ -13,8 +13,11 @@
 //! - `permits_wake`: whom a release of a permit wakes
 //! - `parcels`: channels of owned values
 //! - `rings`: rings
+//! - `all_checks`: the tests, which compare what the checks found
 #![tactic(auto)]
 
+#[cfg(test)]
+mod all_checks;
 #[cfg(test)]
 mod asleep;
 #[cfg(test)]

@@ -1,7 +1,4 @@
 //! What comes of a list that is sent.
-ghost use Rattle.std.specs.Prelude.{◌≡◌, ◌<◌, false, length};
-ghost use Rattle.channel_model.specs.Channels.{kind_at, is_signal};
-ghost use Rattle.cell_words.specs.Hubs.{shape_of, IsOwn};
 ghost use Rattle.bridge_tests.specs.HubPasses.{AreTwo};
 
 use crate::at_once::send_all;
@@ -9,30 +6,10 @@ use crate::pass_calls::{end, wait};
 use crate::streams::{Refuses, collects};
 use cell_words::{Hub, Pass};
 use channel_model::Got;
-use co_base::Value;
-use future_bridge::{HostDrive, ListFault, SinkFault, send_list};
+use future_bridge::{ListFault, SinkFault, send_list};
 use std::alloc::AllocGlobal;
 use std::random::RandomSource;
 use std::sync::Wait;
-
-/// The fault at which the list ends that the pass of tag 1 sends.
-fn fault_of<R: Wait + RandomSource + AllocGlobal>(
-    rt: &R,
-    hub: &Hub,
-    pass: Pass,
-    values: &[Value],
-) -> Option<SinkFault>
-    requires own { IsOwn hub.now pass 1 }
-    requires channel { 0 < length (shape_of hub.now) }
-    requires kind { is_signal (kind_at (shape_of hub.now) 0) ≡ false }
-{
-    let mut host = HostDrive::new(rt);
-    match send_list(&mut host, hub, pass, 1, 0, values) {
-        Err(ListFault::Sink { pass: _pass, fault }) => Some(fault),
-        Err(ListFault::Failed) => None,
-        Ok(_pass) => None,
-    }
-}
 
 /// A list is sent in order.
 pub(crate) fn is_sent<R: Wait + RandomSource + AllocGlobal>(
@@ -43,11 +20,8 @@ pub(crate) fn is_sent<R: Wait + RandomSource + AllocGlobal>(
 ) -> bool
     requires two { AreTwo hub.now one two }
 {
-    let values = [1, 2, 3];
-    let sent = send_all(rt, hub, one, &values);
-    let wanted = [Ok(1), Ok(2), Ok(3)];
-    let came = collects(rt, hub, two, 2, &wanted);
-    sent && came
+    let (sent, _fault) = send_all(rt, hub, one, &[1, 2, 3]);
+    sent & collects(rt, hub, two, 2, &[1, 2, 3], false)
 }
 
 /// A list is not sent to a closed channel.
@@ -60,9 +34,8 @@ pub(crate) fn is_not_sent<R: Wait + RandomSource + AllocGlobal>(
     requires two { AreTwo hub.now one two }
 {
     let closed = end(hub, &mut two, 2, 4);
-    let values = [1];
-    let fault = fault_of(rt, hub, one, &values);
-    closed && matches!(fault, Some(SinkFault::Closed { value: 1, v: 4 }))
+    let (_sent, fault) = send_all(rt, hub, one, &[1]);
+    closed & matches!(fault, Some(SinkFault::Closed { value: 1, v: 4 }))
 }
 
 /// A list ends where no place is left.
@@ -74,8 +47,7 @@ pub(crate) fn ends<R: Wait + RandomSource + AllocGlobal>(
 ) -> bool
     requires two { AreTwo hub.now one _two }
 {
-    let values = [1, 2];
-    let fault = fault_of(rt, hub, one, &values);
+    let (_sent, fault) = send_all(rt, hub, one, &[1, 2]);
     matches!(fault, Some(SinkFault::Spent { value: 2 }))
 }
 
@@ -84,10 +56,9 @@ pub(crate) fn fails(hub: &Hub, one: Pass, mut two: Pass) -> bool
     requires two { AreTwo hub.now one two }
 {
     let mut refuses = Refuses { calls: 0 };
-    let values = [1];
     let failed = matches!(
-        send_list(&mut refuses, hub, one, 1, 0, &values),
+        send_list(&mut refuses, hub, one, 1, 0, &[1]),
         Err(ListFault::Failed)
     );
-    failed && matches!(wait(hub, &mut two, 2), Got::Waiting(0))
+    failed & matches!(wait(hub, &mut two, 2), Got::Waiting(0))
 }

@@ -3,20 +3,17 @@ ghost use Rattle.std.specs.Prelude.{◌≡◌, ◌≤◌, false, IfOk};
 ghost use Rattle.channel_model.specs.Channels.{is_signal};
 ghost use Rattle.bridge_tests.specs.HubPasses.{AreTwo};
 
-use crate::permits_wake::a_permit_that_is_handed_over_wakes_who_waits_for_it;
 use crate::streams::{
     A_STREAM_THAT_DOES_NOT_WAIT_HAS_NONE_TO_GIVE_UP, A_STREAM_THAT_IS_DROPPED_TAKES_ITS_WAIT_BACK,
     A_STREAM_THAT_IS_STOPPED_GIVES_ITS_ELEMENT_UP, A_STREAM_THAT_WAITS_STAYS_AT_ITS_PLACE, Step,
 };
-use crate::{at_once, jobs, lists, streams, together};
+use crate::{at_once, lists, streams, together};
 use cell_words::{Hub, Pass};
 use channel_model::Kind;
 use co_base::Memory;
-use ring_bridge::Bells;
 use std::alloc::{AllocGlobal, Global};
 use std::random::RandomSource;
 use std::sync::Wait;
-use std::test::Fail;
 use std::thread::Threads;
 
 /// What is checked: the functions of these names, or all steps of a table.
@@ -89,7 +86,7 @@ fn went<R: Threads + Wait + RandomSource + AllocGlobal + Sync>(
 }
 
 /// Whether each check went as its name says, on channels of these kinds and so many places.
-fn found<R: Threads + Wait + RandomSource + AllocGlobal + Sync>(rt: &R) -> [bool; 14] {
+pub(crate) fn found<R: Threads + Wait + RandomSource + AllocGlobal + Sync>(rt: &R) -> [bool; 14] {
     let (met, all, two) = (Kind::Rendezvous, Kind::Unlimited, Kind::Buffered(2));
     let stopped = Check::AllSteps(&A_STREAM_THAT_IS_STOPPED_GIVES_ITS_ELEMENT_UP);
     let idle = Check::AllSteps(&A_STREAM_THAT_DOES_NOT_WAIT_HAS_NONE_TO_GIVE_UP);
@@ -112,14 +109,4 @@ fn found<R: Threads + Wait + RandomSource + AllocGlobal + Sync>(rt: &R) -> [bool
         went(rt, Check::ASenderAndAReceiverMeetUnderOneDrive, met, 8),
         went(rt, at_once, Kind::Buffered(64), 10_001),
     ]
-}
-
-/// All checks of what waits on channels over words.
-#[test]
-fn each_check_goes_as_its_name_says(rt: HostRuntime) -> Result<(), Fail> {
-    let bells = Bells::new(rt.alloc())?;
-    let permit = a_permit_that_is_handed_over_wakes_who_waits_for_it(rt.alloc());
-    let (found, jobs) = (found(&rt), jobs::found(&rt, &bells));
-    assert_eq!(rt; (found, jobs, permit), ([true; 14], [true; 4], true));
-    Ok(())
 }

@@ -26,7 +26,7 @@ pub(crate) fn send_both(hub: &Hub, pass: &mut Pass, who: Tag, first: Value, seco
 {
     let one = send(hub, pass, who, first);
     let two = send(hub, pass, who, second);
-    one == Offered::Put(0) && two == Offered::Put(1) && end(hub, pass, who, 0)
+    (one == Offered::Put(0)) & (two == Offered::Put(1)) & end(hub, pass, who, 0)
 }
 
 /// Receives, or waits.

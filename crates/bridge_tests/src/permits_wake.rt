@@ -23,6 +23,11 @@ struct Woken {
     more: bool,
 }
 
+const NOBODY: Woken = Woken {
+    first: None,
+    more: false,
+};
+
 impl Wakes for Woken {
     fn wake(&mut self, tag: Tag) {
         match self.first {
@@ -45,31 +50,19 @@ fn new_mutex(alloc: Global) -> Result<(Hub, Pass, Pass, Pass), Memory>
     Ok((hub, main, one, two))
 }
 
-/// Fills the mutex, by the pass of tag 0. Answers whether there was memory.
-fn fill_by(hub: &Hub, pass: &mut Pass, book: &mut Notes, wakes: &mut Woken) -> bool
-    requires of { IsOf hub.now pass.old }
-    requires may { MayFill 0 1 0 (hub_floor hub.now pass.old) }
-{
-    let mut desk = Desk { hub, pass };
-    let mut caller = Caller {
-        floor: &mut desk,
-        book,
-        wakes,
-        who: 0,
-    };
-    fill(&mut caller, &MUTEX).is_ok()
-}
-
-/// The first holds the mutex, the second waits for it, and then the first releases it. Answers whether it went so.
-fn hold_and_release<F: ChannelFloor, G: ChannelFloor, B: NoteBook, W: Wakes>(
+/// The mutex is filled, one holds it and another waits for it, and then the first releases it. Answers whether it went so.
+fn hold_and_release<F: ChannelFloor, B: NoteBook, W: Wakes>(
+    main: &mut Caller<'_, '_, '_, F, B, W>,
     holder: &mut Caller<'_, '_, '_, F, B, W>,
-    waiter: &mut Caller<'_, '_, '_, G, B, W>,
+    waiter: &mut Caller<'_, '_, '_, F, B, W>,
 ) -> Result<bool, Memory>
+    requires main { MayFill 0 1 main.old.who (F.view main.old.floor.now) }
     requires holder { UsesPermits 0 1 holder.old.who 0 (F.view holder.old.floor.now) }
-    requires waiter { UsesPermits 0 1 waiter.old.who 0 (G.view waiter.old.floor.now) }
+    requires waiter { UsesPermits 0 1 waiter.old.who 0 (F.view waiter.old.floor.now) }
 {
     let mut of_holder = 0u32;
     let mut of_waiter = 0u32;
+    let _filled = fill(main, &MUTEX)?;
     let Acquired::Held = acquire(holder, &MUTEX, &mut of_holder)? else {
         return Ok(false);
     };
@@ -80,87 +73,50 @@ fn hold_and_release<F: ChannelFloor, G: ChannelFloor, B: NoteBook, W: Wakes>(
     Ok(released == Released::Done)
 }
 
-/// The same, but the one who waits calls by a pass.
-fn release_to_pass<F: ChannelFloor>(
-    holder: &mut Caller<'_, '_, '_, F, Notes, Woken>,
-    hub: &Hub,
-    pass: &mut Pass,
-    book: &mut Notes,
-    wakes: &mut Woken,
-) -> Result<bool, Memory>
-    requires holder { UsesPermits 0 1 holder.old.who 0 (F.view holder.old.floor.now) }
-    requires of { IsOf hub.now pass.old }
-    requires waiter { UsesPermits 0 1 2 0 (hub_floor hub.now pass.old) }
-{
-    let mut desk = Desk { hub, pass };
-    let mut waiter = Caller {
-        floor: &mut desk,
-        book,
-        wakes,
-        who: 2,
-    };
-    hold_and_release(holder, &mut waiter)
-}
-
-/// What a coroutine has noted, and whom it has woken.
-#[derive(Drop)]
-struct Own {
-    book: Notes,
-    woken: Woken,
-}
-
-/// Nothing, and nobody.
-fn new_own(alloc: Global) -> Own {
-    Own {
-        book: Notes::new(alloc),
-        woken: Woken {
-            first: None,
-            more: false,
-        },
-    }
-}
-
-/// And the one who holds too. Answers whether it went so.
-fn went(hub: &Hub, pass: &mut Pass, own: &mut Own, of_waiter: &mut Pass, other: &mut Own) -> bool
-    requires of { IsOf hub.now pass.old }
-    requires holder { UsesPermits 0 1 1 0 (hub_floor hub.now pass.old) }
-    requires of_waiter { IsOf hub.now of_waiter.old }
-    requires waiter { UsesPermits 0 1 2 0 (hub_floor hub.now of_waiter.old) }
-{
-    let mut desk = Desk { hub, pass };
-    let mut holder = Caller {
-        floor: &mut desk,
-        book: &mut own.book,
-        wakes: &mut own.woken,
-        who: 1,
-    };
-    let released = release_to_pass(
-        &mut holder,
-        hub,
-        of_waiter,
-        &mut other.book,
-        &mut other.woken,
-    );
-    matches!(released, Ok(true))
-}
-
 /// Whether it went so on this mutex, and the one who waits was woken, and nobody else.
-fn is_woken(hub: &Hub, mut main: Pass, mut one: Pass, mut two: Pass, alloc: Global) -> bool
-    requires main { IsOf hub.now main × MayFill 0 1 0 (hub_floor hub.now main) }
-    requires one { IsOf hub.now one × UsesPermits 0 1 1 0 (hub_floor hub.now one) }
-    requires two { IsOf hub.now two × UsesPermits 0 1 2 0 (hub_floor hub.now two) }
+fn is_woken(hub: Hub, mut main: Pass, mut one: Pass, mut two: Pass, alloc: Global) -> bool
+    requires main { IsOf hub main × MayFill 0 1 0 (hub_floor hub main) }
+    requires one { IsOf hub one × UsesPermits 0 1 1 0 (hub_floor hub one) }
+    requires two { IsOf hub two × UsesPermits 0 1 2 0 (hub_floor hub two) }
 {
-    let mut own = new_own(alloc);
-    let mut other = new_own(alloc);
-    let filled = fill_by(hub, &mut main, &mut other.book, &mut other.woken);
-    let done = went(hub, &mut one, &mut own, &mut two, &mut other);
-    filled & done & (own.woken.first == Some(2)) & !own.woken.more
+    let mut books = (Notes::new(alloc), Notes::new(alloc), Notes::new(alloc));
+    let mut woken = (NOBODY, NOBODY, NOBODY);
+    let went = hold_and_release(
+        &mut Caller {
+            floor: &mut Desk {
+                hub: &hub,
+                pass: &mut main,
+            },
+            book: &mut books.0,
+            wakes: &mut woken.0,
+            who: 0,
+        },
+        &mut Caller {
+            floor: &mut Desk {
+                hub: &hub,
+                pass: &mut one,
+            },
+            book: &mut books.1,
+            wakes: &mut woken.1,
+            who: 1,
+        },
+        &mut Caller {
+            floor: &mut Desk {
+                hub: &hub,
+                pass: &mut two,
+            },
+            book: &mut books.2,
+            wakes: &mut woken.2,
+            who: 2,
+        },
+    );
+    matches!(went, Ok(true)) & (woken.1.first == Some(2)) & !woken.1.more
 }
 
 /// The same of a mutex of its own.
 pub(crate) fn a_permit_that_is_handed_over_wakes_who_waits_for_it(alloc: Global) -> bool {
     match new_mutex(alloc) {
-        Ok((hub, main, one, two)) => is_woken(&hub, main, one, two, alloc),
+        Ok((hub, main, one, two)) => is_woken(hub, main, one, two, alloc),
         Err(_) => false,
     }
 }

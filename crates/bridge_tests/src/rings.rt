@@ -5,18 +5,18 @@
 //! - `ring_lines`: by up to four threads that send, receive, wait, try again, give up, hand over and close
 //! - `who_sleeps`: by a stream and a sink
 //! - `selects`, `handings`: a select over two rings, and a rendezvous
-//! - `on_bells`: all checks
+//! - `on_bells`: the checks by threads, by a stream and a sink, and by a select
 
 #[cfg(test)]
 mod handings;
 #[cfg(test)]
-mod on_bells;
+pub(crate) mod on_bells;
 #[cfg(test)]
 mod ring_calls;
 #[cfg(test)]
 mod ring_lines;
 #[cfg(test)]
-mod ring_rows;
+pub(crate) mod ring_rows;
 #[cfg(test)]
 mod selects;
 #[cfg(test)]

@@ -176,20 +176,36 @@ pub(crate) const A_STREAM_THAT_WAITS_STAYS_AT_ITS_PLACE: [Step; 4] = [
     Step::Gives(5),
 ];
 
-/// Whether all elements are these, and the drive never failed.
+/// Whether the items are these elements, and behind them a fault where there was no place for one.
+pub(crate) fn are(items: &[Result<Value, Spent>], values: &[Value], is_spent: bool) -> bool {
+    let mut right = items.len() == values.len().saturating_add(usize::from(is_spent));
+    let mut at = 0usize;
+    for item in items {
+        let due = match values.get(at) {
+            Some(value) => Ok(*value),
+            None => Err(Spent),
+        };
+        right = right & (*item == due);
+        at = at.wrapping_add(1);
+    }
+    right
+}
+
+/// Whether all that comes is that, and the drive never failed.
 pub(crate) fn collects<R: Wait + RandomSource + AllocGlobal>(
     rt: &R,
     hub: &Hub,
     pass: Pass,
     who: Tag,
-    wanted: &[Result<Value, Spent>],
+    values: &[Value],
+    is_spent: bool,
 ) -> bool
     requires own { IsOwn hub.now pass who }
     requires channel { 0 < length (shape_of hub.now) }
 {
     let mut host = HostDrive::new(rt);
     match collect_all(rt.alloc(), &mut host, hub, pass, who, 0) {
-        Ok((_pass, items)) => items.as_slice() == wanted && host.faults() == 0,
+        Ok((_pass, items)) => are(items.as_slice(), values, is_spent) & (host.faults() == 0),
         Err(_fault) => false,
     }
 }
@@ -204,9 +220,7 @@ pub(crate) fn all_come<R: Wait + RandomSource + AllocGlobal>(
     requires two { AreTwo hub.now one two }
 {
     let sent = send_both(hub, &mut one, 1, 7, 8);
-    let wanted = [Ok(7), Ok(8)];
-    let came = collects(rt, hub, two, 2, &wanted);
-    sent && came
+    sent & collects(rt, hub, two, 2, &[7, 8], false)
 }
 
 /// The fault is the last item.
@@ -219,9 +233,7 @@ pub(crate) fn fault_is_last<R: Wait + RandomSource + AllocGlobal>(
     requires two { AreTwo hub.now one two }
 {
     let waits = wait(hub, &mut one, 1);
-    let wanted = [Err(Spent)];
-    let came = collects(rt, hub, two, 2, &wanted);
-    matches!(waits, Got::Waiting(0)) && came
+    matches!(waits, Got::Waiting(0)) & collects(rt, hub, two, 2, &[], true)
 }
 
 /// A collect that is dropped takes its wait back.

@@ -1,6 +1,7 @@
 //! A sender and a receiver under one drive.
 ghost use Rattle.bridge_tests.specs.HubPasses.{AreTwo};
 
+use crate::streams::are;
 use cell_words::{Hub, Pass};
 use co_base::Value;
 use future_bridge::{Drive, HostDrive, ReceiveStream, SendList, SendSink, Spent};
@@ -13,7 +14,7 @@ use std::sync::Wait;
 /// Whether memory was there for them, and they are 1, 2 and 3.
 fn are_three<E: Drop>(items: Result<Vec<Result<Value, Spent>>, E>) -> bool {
     match items {
-        Ok(items) => items.as_slice() == [Ok(1), Ok(2), Ok(3)].as_slice(),
+        Ok(items) => are(items.as_slice(), &[1, 2, 3], false),
         Err(_) => false,
     }
 }

@@ -2,3 +2,4 @@ pub mod Callers
 pub mod CellsDrawn
 pub mod Known
 pub mod LatestChannels
+pub mod SelectChannels

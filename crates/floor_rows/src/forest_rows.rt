@@ -477,13 +477,13 @@ fn attached_and_cancelled<R: Threads + Wait + Sync>(
     alloc: Global,
 ) -> Result<([u32; 3], [u32; 2]), Memory> {
     let (forest, mut main) = new_forest(alloc, 1201, 0)?;
-    let before = share_of(&forest, &mut main, 1, 601);
-    let below = share_of(&forest, &mut main, 601, 1201);
-    let before = run(&forest, 1201, alloc, before, Work::AttachBelow);
-    let ((mut main, count), below) = join(
+    let mut before = share_of(&forest, &mut main, 1, 601);
+    let mut below = share_of(&forest, &mut main, 601, 1201);
+    run(&forest, 1201, alloc, &mut before, Work::AttachBelow);
+    let ((mut main, count), _) = join(
         rt,
         || cancel_with(&forest, main, alloc),
-        || run(&forest, 1201, alloc, below, Work::AttachBelow),
+        || run(&forest, 1201, alloc, &mut below, Work::AttachBelow),
     );
     let cancelled = count.unwrap_or(0).min(601);
     let left = attached_and_not_cancelled(&forest, 1201, &mut main, alloc);

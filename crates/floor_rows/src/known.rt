@@ -12,3 +12,11 @@ pub(crate) struct Known {
     pub(crate) closed: bool,
     pub(crate) voided: bool,
 }
+
+/// The same of three callers, each with a floor of its own.
+#[derive(Clone, Copy)]
+pub(crate) struct Three {
+    pub(crate) a: Known,
+    pub(crate) b: Known,
+    pub(crate) c: Known,
+}

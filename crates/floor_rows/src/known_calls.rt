@@ -9,7 +9,7 @@ use channel_model::{
     AlreadyClosed, ChannelFloor, Got, Offered, Settled, TriedGot, TriedOffer, WaitState, Why,
     Withdrawn,
 };
-use co_base::{Memory, Place, Tag, Value, WaitId};
+use co_base::{Place, Tag, Value, WaitId};
 
 /// What is done after an element was put, and what it answers.
 #[derive(Clone, Copy)]
@@ -415,20 +415,20 @@ fn is_answer<F: ChannelFloor>(floor: &mut F, known: &mut Known, who: Tag, call: 
     }
 }
 
-/// Whether the call is made, and answers so; and what is known then.
+/// Whether the call is made, and answers so; and what is known then. Where there is no memory, none is made.
 pub(crate) fn answers<F: ChannelFloor>(
     floor: &mut F,
     known: &mut Known,
     who: Tag,
     call: Call,
-) -> Result<bool, Memory>
+) -> bool
     requires caller { (F.view floor.old).callers who ≡ true }
     requires knows { Knows known.old (F.view floor.old) }
     ensures anchor { F.anchor floor.new ≡ F.anchor floor.old }
     ensures then { KnownThen known.new (F.view floor.old) (F.view floor.new) }
 {
     match floor.room(3) {
-        Ok(()) => Ok(is_answer(floor, known, who, call)),
-        Err(memory) => Err(memory),
+        Ok(()) => is_answer(floor, known, who, call),
+        Err(_) => false,
     }
 }

@@ -4,7 +4,7 @@
 //! - `compare`: what every test ends with.
 //! - `known`, `known_calls`: calls on one channel, each made where what it asks is known, so that a list of calls can be a table.
 //! - `rows`: such tables, on a floor of lists and over words.
-//! - `select_tests`: a select of two receives, while another coroutine calls in between: on lists, and over words.
+//! - `select_tests`: a select of two receives over words, while another coroutine calls in between.
 //! - `at_once`: such a select, and the other's calls by a thread of its own.
 //! - `on_passes`: offers and receives by four threads, each with a pass.
 //! - `selects_on_passes`: waits of several clauses, each call made by a pass.

@@ -1,6 +1,7 @@
 //! What calls by passes on one channel over words answer, worked out by hand, and what four threads come to.
 
-ghost use Rattle.std.specs.Prelude.{◌≡◌, ◌<◌, false, true, length};
+ghost use Rattle.std.specs.Prelude.{◌≡◌, ℕ, ◌<◌, false, true, length, slice_index_or};
+ghost use Rattle.std.specs.List.{All};
 ghost use Rattle.channel_model.specs.Channels.{kind_at, is_signal};
 ghost use Rattle.channel_model.specs.Histories.{replay};
 ghost use Rattle.channel_model.specs.Answers.{IsOwnWait};
@@ -14,7 +15,7 @@ use channel_model::{Got, Kind, Offered, Settled, WaitState, Why, Withdrawn};
 use co_base::{Place, Tag, Value, WaitId};
 use std::sync::Wait;
 use std::test::Fail;
-use std::thread::{Threads, join};
+use std::thread::{self, Threads};
 
 /// What some calls came to.
 #[derive(Clone, Copy, Drop)]
@@ -255,64 +256,23 @@ fn caller_of(hub: &Hub, pass: Pass, who: Tag, offers: Option<Value>) -> Caller
 }
 
 /// What one thread does: 1,000 offers, or 1,000 receives.
-fn work(hub: &Hub, caller: Caller) -> Caller
-    requires own { IsOwn hub.now caller.pass caller.who }
+fn work(hub: &Hub, caller: &mut Caller)
+    requires own { IsOwn hub.now caller.old.pass caller.old.who }
     requires channel { 0 < length (shape_of hub.now) }
     requires kind { is_signal (kind_at (shape_of hub.now) 0) ≡ false }
-    ensures own { IsOwn hub.now result.pass result.who }
+    ensures own { IsOwn hub.now caller.new.pass caller.new.who }
 {
-    let mut caller = caller;
     caller.tally = calls(hub, &mut caller.pass, caller.who, caller.offers);
-    caller
 }
 
-/// The work of two, by a thread each.
-fn by_two<R: Threads + Wait + Sync>(rt: &R, hub: &Hub, a: Caller, b: Caller) -> (Caller, Caller)
-    requires a { IsOwn hub.now a.pass a.who }
-    requires b { IsOwn hub.now b.pass b.who }
+/// The work of all, by a thread each.
+fn at_once<R: Threads + Wait + Sync>(rt: &R, hub: &Hub, callers: &mut [Caller])
+    requires own { All (λ c. IsOwn hub.now c.pass c.who) callers.old }
     requires channel { 0 < length (shape_of hub.now) }
     requires kind { is_signal (kind_at (shape_of hub.now) 0) ≡ false }
-    ensures a { IsOwn hub.now result.0.pass result.0.who }
-    ensures b { IsOwn hub.now result.1.pass result.1.who }
+    ensures own { (i : ℕ) (d : Caller) → i < length callers.old → IsOwn hub.now (slice_index_or callers.new i d).pass (slice_index_or callers.new i d).who }
 {
-    join(rt, || work(hub, a), || work(hub, b))
-}
-
-/// The work of four, by a thread each.
-fn by_four<R: Threads + Wait + Sync>(
-    rt: &R,
-    hub: &Hub,
-    a: Caller,
-    b: Caller,
-    c: Caller,
-    d: Caller,
-) -> ((Caller, Caller), (Caller, Caller))
-    requires a { IsOwn hub.now a.pass a.who }
-    requires b { IsOwn hub.now b.pass b.who }
-    requires c { IsOwn hub.now c.pass c.who }
-    requires d { IsOwn hub.now d.pass d.who }
-    requires channel { 0 < length (shape_of hub.now) }
-    requires kind { is_signal (kind_at (shape_of hub.now) 0) ≡ false }
-    ensures a { IsOwn hub.now result.0.0.pass result.0.0.who }
-    ensures b { IsOwn hub.now result.0.1.pass result.0.1.who }
-    ensures c { IsOwn hub.now result.1.0.pass result.1.0.who }
-    ensures d { IsOwn hub.now result.1.1.pass result.1.1.who }
-{
-    join(
-        rt,
-        || -> (Caller, Caller)
-            requires first { IsOwn hub.now a.pass a.who }
-            requires second { IsOwn hub.now b.pass b.who }
-            requires channel { 0 < length (shape_of hub.now) }
-            requires kind { is_signal (kind_at (shape_of hub.now) 0) ≡ false }
-        { by_two(rt, hub, a, b) },
-        || -> (Caller, Caller)
-            requires first { IsOwn hub.now c.pass c.who }
-            requires second { IsOwn hub.now d.pass d.who }
-            requires channel { 0 < length (shape_of hub.now) }
-            requires kind { is_signal (kind_at (shape_of hub.now) 0) ≡ false }
-        { by_two(rt, hub, c, d) },
-    )
+    thread::for_each_mut(rt, callers, 4, &|_, caller| work(hub, caller));
 }
 
 /// Ends a pass, whose coroutine may then call by the pass that took it in.
@@ -385,7 +345,9 @@ fn four_threads_lose_no_call_and_no_element(rt: HostRuntime) -> Result<(), Fail>
     let b = caller_of(&hub, second, 2, Some(1000));
     let c = caller_of(&hub, third, 3, None);
     let d = caller_of(&hub, fourth, 4, None);
-    let ((a, b), (c, d)) = by_four(&rt, &hub, a, b, c, d);
+    let mut callers = [a, b, c, d];
+    at_once(&rt, &hub, &mut callers);
+    let [a, b, c, d] = callers;
     let senders = both(end(&hub, &mut main, a), end(&hub, &mut main, b));
     let receivers = both(end(&hub, &mut main, c), end(&hub, &mut main, d));
     let found = told_of(senders, receivers);

@@ -1,16 +1,16 @@
 //! Calls of several coroutines on one channel, worked out by hand: on lists, and over words with a pass for each coroutine.
 
-ghost use Rattle.std.specs.Prelude.{◌≡◌, ◌≤◌, true, false, [], ◌∷◌, IfOk};
+ghost use Rattle.std.specs.Prelude.{◌≡◌, ◌≤◌, ℕ, true, false};
 ghost use Rattle.channel_model.specs.Channels.{is_signal};
-ghost use Rattle.one_thread_floor.specs.ListFloors.{floor_of, MayBeMade};
-ghost use Rattle.cell_words.specs.Hubs.{IsOf, IsOwn, GivesTags};
+ghost use Rattle.one_thread_floor.specs.ListFloors.{MayBeMade};
+ghost use Rattle.cell_words.specs.Hubs.{IsOwn};
 ghost use Rattle.cell_calls.specs.Desks.{desk_floor, desk_anchor};
 ghost use Rattle.cell_calls.specs.HubFloors.{hub_floor};
 ghost use Rattle.floor_rows.specs.Known.{Knows, nothing};
 ghost use Rattle.floor_rows.specs.Callers.{IsCaller};
 
 use crate::compare::compare;
-use crate::known::Known;
+use crate::known::{Known, Three};
 use crate::known_calls::{Call, Then, answers, nothing};
 use cell_calls::Desk;
 use cell_words::{Hub, Pass};
@@ -23,31 +23,24 @@ use one_thread_floor::ListFloor;
 use std::alloc::Global;
 use std::test::Fail;
 
-// ---- on lists
+// ---- on one floor
 
-/// A floor of one channel.
-fn new_floor(alloc: Global, kind: Kind, places: u32) -> Result<ListFloor, Memory>
-    requires elements { is_signal kind ≡ false }
-    requires may { MayBeMade (kind, places) }
-    ensures knows { IfOk result (λ f. Knows nothing (floor_of f)) }
+/// How many of the calls answer so, from the first on, on a floor on which everybody may call.
+fn right_on<F: ChannelFloor>(floor: &mut F, calls: &[(Tag, Call)]) -> usize
+    requires all { (t : ℕ) → (F.view floor.old).callers t ≡ true }
+    requires knows { Knows nothing (F.view floor.old) }
 {
-    ListFloor::new(alloc, &[(kind, places)])
+    let mut known = nothing();
+    for i in 0..calls.len() {
+        let (who, call) = calls[i];
+        if !answers(floor, &mut known, who, call) {
+            return i;
+        }
+    }
+    calls.len()
 }
 
-/// Whether the call answers so; and what is known then.
-fn answers_on_list(
-    floor: &mut ListFloor,
-    known: &mut Known,
-    who: Tag,
-    call: Call,
-) -> Result<bool, Memory>
-    requires knows { Knows known.old (floor_of floor.old) }
-    ensures knows { Knows known.new (floor_of floor.new) }
-{
-    answers(floor, known, who, call)
-}
-
-/// How many of the calls answer so, from the first on.
+/// The same on a floor of lists.
 fn right_on_list(
     alloc: Global,
     kind: Kind,
@@ -57,33 +50,14 @@ fn right_on_list(
     requires elements { is_signal kind ≡ false }
     requires may { MayBeMade (kind, places) }
 {
-    let mut floor = new_floor(alloc, kind, places)?;
-    let mut known = nothing();
-    for i in 0..calls.len() {
-        let (who, call) = calls[i];
-        if !answers_on_list(&mut floor, &mut known, who, call)? {
-            return Ok(i);
-        }
-    }
-    Ok(calls.len())
+    let mut floor = ListFloor::new(alloc, &[(kind, places)])?;
+    Ok(right_on(&mut floor, calls))
 }
 
 // ---- over words
 
-/// A coroutine with its pass, and what it knows.
-#[derive(Drop)]
-struct Caller {
-    pass: Pass,
-    known: Known,
-}
-
 /// Whether the call answers so; and what is known then.
-fn answers_on_desk(
-    desk: &mut Desk<'_>,
-    known: &mut Known,
-    who: Tag,
-    call: Call,
-) -> Result<bool, Memory>
+fn answers_on_desk(desk: &mut Desk<'_>, known: &mut Known, who: Tag, call: Call) -> bool
     requires caller { (desk_floor desk.old).callers who ≡ true }
     requires knows { Knows known.old (desk_floor desk.old) }
     ensures anchor { desk_anchor desk.new ≡ desk_anchor desk.old }
@@ -94,86 +68,65 @@ fn answers_on_desk(
 }
 
 /// The same by a pass.
-fn answers_by(hub: &Hub, caller: &mut Caller, who: Tag, call: Call) -> Result<bool, Memory>
-    requires is { IsCaller hub.now who caller.old.pass caller.old.known }
-    ensures is { IsCaller hub.now who caller.new.pass caller.new.known }
+fn answers_by(hub: &Hub, pass: &mut Pass, known: &mut Known, who: Tag, call: Call) -> bool
+    requires is { IsCaller hub.now who pass.old known.old }
+    ensures is { IsCaller hub.now who pass.new known.new }
 {
-    let mut desk = Desk {
-        hub,
-        pass: &mut caller.pass,
-    };
-    answers_on_desk(&mut desk, &mut caller.known, who, call)
+    let mut desk = Desk { hub, pass };
+    answers_on_desk(&mut desk, known, who, call)
 }
 
 /// The same by the coroutine with this tag, which is 1, 2 or 3.
 fn answers_of_three(
     hub: &Hub,
-    a: &mut Caller,
-    b: &mut Caller,
-    c: &mut Caller,
+    a: &mut Pass,
+    b: &mut Pass,
+    c: &mut Pass,
+    known: &mut Three,
     who: Tag,
     call: Call,
-) -> Result<bool, Memory>
-    requires a { IsCaller hub.now 1 a.old.pass a.old.known }
-    requires b { IsCaller hub.now 2 b.old.pass b.old.known }
-    requires c { IsCaller hub.now 3 c.old.pass c.old.known }
-    ensures a { IsCaller hub.now 1 a.new.pass a.new.known }
-    ensures b { IsCaller hub.now 2 b.new.pass b.new.known }
-    ensures c { IsCaller hub.now 3 c.new.pass c.new.known }
+) -> bool
+    requires a { IsCaller hub.now 1 a.old known.old.a }
+    requires b { IsCaller hub.now 2 b.old known.old.b }
+    requires c { IsCaller hub.now 3 c.old known.old.c }
+    ensures a { IsCaller hub.now 1 a.new known.new.a }
+    ensures b { IsCaller hub.now 2 b.new known.new.b }
+    ensures c { IsCaller hub.now 3 c.new known.new.c }
 {
     match who {
-        1 => answers_by(hub, a, 1, call),
-        2 => answers_by(hub, b, 2, call),
-        _ => answers_by(hub, c, 3, call),
-    }
-}
-
-/// A hub of one channel.
-fn new_hub(alloc: Global, kind: Kind, places: u32) -> Result<(Hub, Pass), Memory>
-    requires elements { is_signal kind ≡ false }
-    requires some { 1 ≤ places }
-    requires few { places ≤ 1048576 }
-    ensures of { IfOk result (λ r. IsOf r.0 r.1) }
-    ensures gives { IfOk result (λ r. GivesTags (0 ∷ []) r.1) }
-    ensures knows { IfOk result (λ r. Knows nothing (hub_floor r.0 r.1)) }
-{
-    let kinds = [(kind, places)];
-    Hub::new(alloc, &kinds)
-}
-
-/// One that has not called yet.
-fn caller_of(hub: &Hub, pass: Pass, who: Tag) -> Caller
-    requires own { IsOwn hub.now pass who }
-    requires knows { Knows nothing (hub_floor hub.now pass) }
-    ensures is { IsCaller hub.now who result.pass result.known }
-{
-    Caller {
-        pass,
-        known: nothing(),
+        1 => answers_by(hub, a, &mut known.a, 1, call),
+        2 => answers_by(hub, b, &mut known.b, 2, call),
+        _ => answers_by(hub, c, &mut known.c, 3, call),
     }
 }
 
 /// How many of the calls answer so, from the first on.
 fn right_of_three(
     hub: &Hub,
-    a: &mut Caller,
-    b: &mut Caller,
-    c: &mut Caller,
+    a: &mut Pass,
+    b: &mut Pass,
+    c: &mut Pass,
     calls: &[(Tag, Call)],
-) -> Result<usize, Memory>
-    requires a { IsCaller hub.now 1 a.old.pass a.old.known }
-    requires b { IsCaller hub.now 2 b.old.pass b.old.known }
-    requires c { IsCaller hub.now 3 c.old.pass c.old.known }
+) -> usize
+    requires a { IsCaller hub.now 1 a.old nothing }
+    requires b { IsCaller hub.now 2 b.old nothing }
+    requires c { IsCaller hub.now 3 c.old nothing }
 {
+    let mut known = Three {
+        a: nothing(),
+        b: nothing(),
+        c: nothing(),
+    };
     for i in 0..calls.len() {
         let (who, call) = calls[i];
-        if !answers_of_three(hub, a, b, c, who, call)? {
-            return Ok(i);
+        if !answers_of_three(hub, a, b, c, &mut known, who, call) {
+            return i;
         }
     }
-    Ok(calls.len())
+    calls.len()
 }
 
+/// The same on a hub, by a pass for each.
 fn right_on_hub(
     alloc: Global,
     kind: Kind,
@@ -184,14 +137,11 @@ fn right_on_hub(
     requires some { 1 ≤ places }
     requires few { places ≤ 1048576 }
 {
-    let (hub, mut main) = new_hub(alloc, kind, places)?;
-    let a = hub.split(&mut main, 1);
-    let b = hub.split(&mut main, 2);
-    let c = hub.split(&mut main, 3);
-    let mut a = caller_of(&hub, a, 1);
-    let mut b = caller_of(&hub, b, 2);
-    let mut c = caller_of(&hub, c, 3);
-    right_of_three(&hub, &mut a, &mut b, &mut c, calls)
+    let (hub, mut main) = Hub::new(alloc, &[(kind, places)])?;
+    let mut a = hub.split(&mut main, 1);
+    let mut b = hub.split(&mut main, 2);
+    let mut c = hub.split(&mut main, 3);
+    Ok(right_of_three(&hub, &mut a, &mut b, &mut c, calls))
 }
 
 // ---- the rows

@@ -23,44 +23,38 @@ use std::thread::{Threads, join};
 use word_seats::{ForestSeat, HubSeat, TableName};
 
 /// Tag 1 offers, if there is memory.
-fn offer<C: SharedChannels + Drop>(mut seat: C) -> (C, Option<Offered>)
-    requires can { MayCall 1 0 (C.view seat) }
-    requires kind { is_signal (kind_at (C.view seat).shape 0) ≡ false }
+fn offer<C: SharedChannels>(seat: &mut C) -> Option<Offered>
+    requires can { MayCall 1 0 (C.view seat.old) }
+    requires kind { is_signal (kind_at (C.view seat.old).shape 0) ≡ false }
 {
-    let offered = match seat.room(1) {
+    match seat.room(1) {
         Ok(()) => Some(seat.offer(1, 0, 5)),
         Err(_) => None,
-    };
-    (seat, offered)
+    }
 }
 
 /// Tag 2 receives, if there is memory.
-fn receive<C: SharedChannels + Drop>(mut seat: C) -> (C, Option<Got>)
-    requires can { MayCall 2 0 (C.view seat) }
+fn receive<C: SharedChannels>(seat: &mut C) -> Option<Got>
+    requires can { MayCall 2 0 (C.view seat.old) }
 {
-    let got = match seat.room(1) {
+    match seat.room(1) {
         Ok(()) => Some(seat.receive(2, 0)),
         Err(_) => None,
-    };
-    (seat, got)
+    }
 }
 
 /// Both, by a thread each. The receiver hears of the sender, and both end into the first seat.
 fn transfer<C: SharedChannels + Drop + Send, R: Threads + Wait + Sync>(
     rt: &R,
     main: &mut C,
-    sender: C,
-    receiver: C,
+    mut sender: C,
+    mut receiver: C,
 ) -> (Option<Offered>, Option<Got>)
     requires sender { MayCall 1 0 (C.view sender) }
     requires receiver { MayCall 2 0 (C.view receiver) }
     requires kind { is_signal (kind_at (C.view sender).shape 0) ≡ false }
 {
-    let ((mut sender, offered), (mut receiver, got)) = join(
-        rt,
-        || offer(sender),
-        || receive(receiver),
-    );
+    let (offered, got) = join(rt, || offer(&mut sender), || receive(&mut receiver));
     receiver.meet(&mut sender);
     main.end(sender);
     main.end(receiver);

@@ -1,11 +1,9 @@
-//! A select of two receives, while another coroutine calls in between: on lists, and over words.
+//! A select of two receives over words, while another coroutine calls in between.
 
 ghost use Rattle.std.specs.Prelude.{◌≡◌, ◌≤◌, true, length, [], ◌∷◌, IfOk};
-ghost use Rattle.std.specs.List.{list_all};
 ghost use Rattle.channel_model.specs.Answers.{IsOwn};
 ghost use Rattle.cell_words.specs.Hubs.{shape_of, IsOf, IsOwn as IsOwnPass, GivesTags};
-ghost use Rattle.one_thread_floor.specs.ListFloors.{floor_of};
-ghost use Rattle.floor_tests.specs.Meetings.{may_meet, two_channels};
+ghost use Rattle.floor_tests.specs.Meetings.{two_channels};
 
 use crate::compare::compare;
 use cell_calls::Desk;
@@ -13,12 +11,10 @@ use cell_words::{Hub, Pass};
 use channel_calls::Caller;
 use channel_model::{Act, ChannelFloor, ChannelNote, Kind, Settled, WaitState, Why};
 use co_base::{Memory, Tag, Value, WaitId, Wakes};
-use floor_tests::{Beside, Between, NoWakes, OTHER, OtherCall};
+use floor_tests::{Beside, NoWakes, OTHER, OtherCall};
 use note_book::{Item, NoteBook, Notes};
-use one_thread_floor::ListFloor;
 use select_calls::{Clause, Outcome, SelectAnswer, select_poll};
 use std::alloc::Global;
-use std::collections::VecDeque;
 use std::test::Fail;
 
 /// The coroutine that selects.
@@ -31,32 +27,6 @@ pub(crate) struct Found {
     held: Option<WaitId>,
     /// How its wait ended, where it was resolved.
     ended: Option<Settled>,
-}
-
-/// Whether the other may take the call on two channels.
-fn is_on_two(call: OtherCall) -> bool
-    ensures { result ≡ may_meet two_channels call }
-{
-    match call {
-        OtherCall::Nothing => true,
-        OtherCall::Offer { c, value: _ } => c < 2,
-        OtherCall::Receive { c } => c < 2,
-        OtherCall::Close { c, v: _ } => c < 2,
-    }
-}
-
-/// The calls that may be taken on two channels.
-fn calls_on_two(alloc: Global, calls: [OtherCall; 5]) -> Result<VecDeque<OtherCall>, Memory>
-    ensures may { IfOk result (λ q. list_all (may_meet two_channels) q.items ≡ true) }
-    ensures few { IfOk result (λ q. length q.items ≤ 5) }
-{
-    let mut queue = VecDeque::new(alloc);
-    for call in calls {
-        if is_on_two(call) {
-            queue.push_back(call)?;
-        }
-    }
-    Ok(queue)
 }
 
 /// Ends the caller's wait, if it was resolved.
@@ -127,13 +97,6 @@ pub(crate) fn select_on<F: ChannelFloor, B: NoteBook>(
 
 /// Two rendezvous channels of four places.
 const KINDS: [(Kind, u32); 2] = [(Kind::Rendezvous, 4), (Kind::Rendezvous, 4)];
-
-/// A floor of two channels.
-fn new_floor(alloc: Global) -> Result<ListFloor, Memory>
-    ensures { IfOk result (λ f. (floor_of f).shape ≡ two_channels) }
-{
-    ListFloor::new(alloc, &KINDS)
-}
 
 /// A hub of two channels.
 pub(crate) fn new_hub(alloc: Global) -> Result<(Hub, Pass), Memory>
@@ -340,52 +303,38 @@ const ROWS: [Row; 5] = [
     row!(BOTH_OFFERED, received_first!(7), &TOO_LATE),
 ];
 
-/// Whether a select comes to what its row says, and whether it notes these notes: on lists, where the other makes each of its calls before
-/// one of the select.
-fn is_right_on_lists(alloc: Global, row: Row) -> Result<[bool; 2], Memory> {
-    let calls = calls_on_two(alloc, row.calls)?;
-    let floor = new_floor(alloc)?;
-    let mut between = Between::new(floor, calls)?;
-    let mut book = Notes::new(alloc);
-    let found = select_on(&mut between, &mut book)?;
-    Ok([found == row.found, has_noted(&book, row.noted)])
-}
-
-/// The same over a hub, where the two have a pass each, and the other makes each of its calls after a note of the select.
+/// Whether a select comes to what its row says, and whether it notes these notes, on a hub where the two have a pass each: the other makes
+/// each of its calls after a note of the select.
 fn is_right_on_hub(
     hub: &Hub,
     user: &mut Pass,
     others: &mut Pass,
     alloc: Global,
-    row: Row,
+    row: &Row,
 ) -> Result<[bool; 2], Memory>
     requires shape { shape_of hub.now ≡ two_channels }
     requires user { IsOwnPass hub.now user.old 1 }
     requires others { IsOwnPass hub.now others.old 2 }
 {
-    let calls = calls_on_two(alloc, row.calls)?;
     let mut floor = Desk { hub, pass: user };
-    let mut book = Beside::new(alloc, Desk { hub, pass: others }, calls)?;
+    let mut book = Beside::new(alloc, Desk { hub, pass: others }, row.calls);
     let found = select_on(&mut floor, &mut book)?;
     Ok([found == row.found, has_noted(book.notes(), row.noted)])
 }
 
 /// The same on a hub of its own.
-fn is_right_over_hub(alloc: Global, row: Row) -> Result<[bool; 2], Memory> {
+fn is_right(alloc: Global, row: &Row) -> Result<[bool; 2], Memory> {
     let (hub, mut main) = new_hub(alloc)?;
     let mut user = hub.split(&mut main, USER);
     let mut others = hub.split(&mut main, OTHER);
     is_right_on_hub(&hub, &mut user, &mut others, alloc, row)
 }
 
-/// The number of the first row that does not hold, and what of it holds: on lists, and over a hub.
-fn first_other(alloc: Global, rows: &[Row]) -> Result<Option<(usize, [[bool; 2]; 2])>, Memory> {
+/// The number of the first row that does not hold, and what of it holds.
+fn first_other(alloc: Global, rows: &[Row]) -> Result<Option<(usize, [bool; 2])>, Memory> {
     for (number, row) in rows.iter().enumerate() {
-        let right = [
-            is_right_on_lists(alloc, *row)?,
-            is_right_over_hub(alloc, *row)?,
-        ];
-        if right != [[true; 2]; 2] {
+        let right = is_right(alloc, row)?;
+        if right != [true; 2] {
             return Ok(Some((number, right)));
         }
     }

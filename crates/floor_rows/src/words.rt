@@ -3,7 +3,7 @@
 //! - `counted_rows`, `counted_at_once`: counted cells, call by call, and by four threads.
 //! - `gate_rows`: a gate, call by call.
 //! - `guarded_rows`: a value that one at a time has, call by call, and by two threads.
-//! - `latest_at_once`: a channel that does not keep its latest, call by call, and by two threads.
+//! - `latest_at_once`: a channel that does not keep its latest, by two threads.
 
 #[cfg(test)]
 mod counted_at_once;

@@ -1,19 +1,20 @@
 -- What a coroutine knows of its use of the permits of a channel, before and after a call.
-use Rattle.std.specs.Prelude.{◌≡◌, ◌≤◌, ℕ, List, Option, Some, None, Result, Ok, Err}
+use Rattle.std.specs.Prelude.{◌≡◌, ◌≤◌, ℕ, List, [], ◌∷◌, Option, Some, None, Result, Ok, Err}
 use Rattle.co_base.specs.declared.names.WaitId.{WaitId}
 use Rattle.co_base.specs.declared.names.Memory.{Memory}
 use Rattle.channel_model.specs.declared.acts.Act.{Act}
+use Rattle.channel_model.specs.declared.acts.Kind.TheVariants.{Unlimited}
 use Rattle.channel_model.specs.Histories.{replay}
 use Rattle.channel_model.specs.Floors.{Floor, Added}
 use Rattle.channel_model.specs.Answers.{IsUnsettledOf}
 use Rattle.cell_words.specs.declared.hub.Hub.{Hub}
-use Rattle.cell_words.specs.Hubs.{IsOf}
+use Rattle.cell_words.specs.Hubs.{shape_of, IsOf}
 use Rattle.cell_calls.specs.HubFloors.{hub_floor}
 use Rattle.permits.specs.declared.permits.Acquired.{Acquired}
 use Rattle.permits.specs.declared.permits.Acquired.TheVariants as acquired
 use Rattle.permits.specs.Parts.{UsesPermits}
 use Rattle.floor_tests.specs.declared.permit_calls.known_calls.Known.{Known}
-use Rattle.floor_tests.specs.declared.permit_calls.at_once.Four.{Four}
+use Rattle.floor_tests.specs.declared.permit_calls.at_once.Worker.{Worker}
 
 -- the wait was seen, is who's, and did not end
 abbrev pub HoldsWait : ℕ → WaitId → Floor → Type 0
@@ -52,19 +53,18 @@ wait_of acquired.Cancelled = None
 wait_of (acquired.Closed v) = None
 wait_of acquired.Spent = None
 
--- ---- four with a pass each, with the tags 1 to 4, on the permits of the first channel
+-- ---- several with a pass each, on the permits of the first channel
 
 -- a semaphore may have so many permits
 pub record IsNumber (n : ℕ) : Type 0 where
   pub some : 1 ≤ n
   pub few : n ≤ 65535
 
-pub record FourUse (n : ℕ) (hub : Hub) (p : Four) : Type 0 where
-  pub of_a : IsOf hub p.a
-  pub of_b : IsOf hub p.b
-  pub of_c : IsOf hub p.c
-  pub of_d : IsOf hub p.d
-  pub a : UsesPermits 0 n 1 0 (hub_floor hub p.a)
-  pub b : UsesPermits 0 n 2 0 (hub_floor hub p.b)
-  pub c : UsesPermits 0 n 3 0 (hub_floor hub p.c)
-  pub d : UsesPermits 0 n 4 0 (hub_floor hub p.d)
+-- the hub's one channel keeps all
+abbrev pub IsForAll : Hub → Type 0
+IsForAll hub = shape_of hub ≡ (Unlimited, 1048576) ∷ []
+
+-- a coroutine with a pass of its own uses the n permits of the first channel, and holds none
+pub record IsWorker (n : ℕ) (hub : Hub) (w : Worker) : Type 0 where
+  pub of : IsOf hub w.pass
+  pub uses : UsesPermits 0 n w.who 0 (hub_floor hub w.pass)

@@ -1,46 +1,42 @@
 //! A book of notes, between which another coroutine calls.
 
-ghost use Rattle.std.specs.Prelude.{◌≡◌, ◌<◌, ◌^◌, true, length};
-ghost use Rattle.std.specs.List.{list_all};
+ghost use Rattle.std.specs.Prelude.{◌≡◌, true};
 ghost use Rattle.std.proofs.Props.{props};
 ghost use Rattle.note_book.specs.Books.{notes_of, spare_of};
-ghost use Rattle.floor_tests.specs.Meetings.{other, may_meet, HasCalls};
+ghost use Rattle.floor_tests.specs.Meetings.{other, MayMeet, two_channels};
 
-use crate::other_calls::{OtherCall, make_next};
+use crate::other_calls::{OtherCall, make_call};
 use channel_model::ChannelFloor;
 use co_base::Memory;
 use note_book::{Item, NoteBook, Notes};
 use std::alloc::Global;
-use std::collections::VecDeque;
 
-/// The notes of a user that has a floor of its own on the channels of the other's floor: right after each note, and so before the next call
-/// of the user, the other makes the next of its calls.
+/// The notes of a user that has a floor of its own on the two channels of the other's floor: right after each note, and so before the next
+/// call of the user, the other makes the next of its calls.
 #[derive(Drop)]
 pub struct Beside<O: ChannelFloor + Drop> {
     notes: Notes,
     others: O,
-    calls: VecDeque<OtherCall>,
-    ghost has: { HasCalls (O.view others) calls.items } by { Prim.hlevel props },
+    calls: [OtherCall; 5],
+    /// The number of the other's next call.
+    next: usize,
+    ghost may: { MayMeet (O.view others) } by { Prim.hlevel props },
 }
 
 impl<O: ChannelFloor + Drop> Beside<O> {
     /// A book with nothing in it, and the floor of the other, who makes the first of these calls now.
-    pub fn new(alloc: Global, others: O, calls: VecDeque<OtherCall>) -> Result<Beside<O>, Memory>
+    pub fn new(alloc: Global, others: O, calls: [OtherCall; 5]) -> Beside<O>
         requires caller { (O.view others).callers other ≡ true }
-        requires may { list_all (may_meet (O.view others).shape) calls.items ≡ true }
-        requires few { length calls.items < 2 ^ 32 }
+        requires shape { (O.view others).shape ≡ two_channels }
     {
         let mut others = others;
-        let mut calls = calls;
-        if let Err(memory) = others.room(calls.len() as u32) {
-            return Err(memory);
-        }
-        make_next(&mut others, &mut calls);
-        Ok(Beside {
+        make_call(&mut others, calls[0]);
+        Beside {
             notes: Notes::new(alloc),
             others,
             calls,
-        })
+            next: 1,
+        }
     }
 
     /// What was noted.
@@ -60,6 +56,9 @@ impl<O: ChannelFloor + Drop> NoteBook for Beside<O> {
 
     fn note(&mut self, item: Item) {
         self.notes.note(item);
-        make_next(&mut self.others, &mut self.calls);
+        if self.next < 5 {
+            make_call(&mut self.others, self.calls[self.next]);
+            self.next += 1;
+        }
     }
 }

@@ -1,7 +1,6 @@
 //! What tests and benches of floors have in common.
 //!
 //! - `other_calls`: the coroutine that calls in between, and its calls.
-//! - `between`, `between_calls`: a floor on which it makes one before each call of the user.
 //! - `beside`: notes of the user, after each of which it makes one by a floor of its own on the same channels.
 //! - `no_wakes`: wakes of which nothing comes.
 //! - `permit_calls`: calls of several coroutines on the permits of a semaphore.
@@ -9,14 +8,11 @@
 #![tactic(auto)]
 
 mod beside;
-mod between;
-mod between_calls;
 pub mod forest_shares;
 mod no_wakes;
 mod other_calls;
 pub mod permit_calls;
 
 pub use beside::Beside;
-pub use between::Between;
 pub use no_wakes::NoWakes;
 pub use other_calls::{OTHER, OtherCall};

@@ -7,7 +7,7 @@ ghost use Rattle.channel_model.specs.Answers.{IsReady};
 ghost use Rattle.bridge_tests.specs.ParcelPasses.{Keeps};
 
 use crate::parcels::parcel_calls::{cancel, drain_one, look_at, take_back};
-use crate::parcels::{parcel_rows, parcel_streams};
+use crate::parcels::parcel_streams;
 use channel_model::{Kind, WaitState, Withdrawn};
 use co_base::WaitId;
 use parcel_channel::{ParcelGot, ParcelHub, ParcelPass, ParcelSent, ParcelSettled};
@@ -15,7 +15,6 @@ use ring_bridge::Bells;
 use std::alloc::{AllocGlobal, Global};
 use std::random::RandomSource;
 use std::sync::Wait;
-use std::test::Fail;
 use std::thread;
 use std::thread::{Threads, sleep, yield_now};
 use std::time::{Clock, Duration};
@@ -32,7 +31,7 @@ const TURNS: u32 = 2_000;
 enum How {
     /// It gives its wait up at once.
     GivesUp,
-    /// It looks until its wait is resolved, and gives way meanwhile. Who sends never waits.
+    /// Who receives looks until its wait is resolved, and gives way meanwhile. Who sends gives up.
     Looks,
     Sleeps,
 }
@@ -49,7 +48,7 @@ struct Part {
 /// What all do at once.
 #[derive(Clone, Copy)]
 struct Line {
-    senders: [Part; 2],
+    senders: (Part, Part),
     receiver: Part,
     /// Whether the channel is closed, cancelled and drained meanwhile.
     ends: bool,
@@ -116,11 +115,6 @@ impl Fates {
     }
 }
 
-/// Over, or none.
-fn over_if(went: bool) -> Fates {
-    if went { OVER } else { NONE }
-}
-
 /// Gives the own wait up, unless it was resolved before.
 fn give_up(hub: &ParcelHub<Box<u32>>, pass: &mut ParcelPass<Box<u32>>, wait: WaitId) -> Fates
     requires of { IsOf hub.now pass.old }
@@ -156,38 +150,6 @@ fn send_or_give_up(
     }
 }
 
-/// Sends a box, which never has to wait.
-fn send_at_once(
-    hub: &ParcelHub<Box<u32>>,
-    pass: &mut ParcelPass<Box<u32>>,
-    value: Box<u32>,
-) -> Fates
-    requires of { IsOf hub.now pass.old }
-    ensures kept { Keeps hub.now pass.old pass.new }
-{
-    match hub.send(pass, value) {
-        ParcelSent::Sent(_, _) => OVER,
-        _ => NONE,
-    }
-}
-
-/// Sends a box, and sleeps while it waits.
-fn send_asleep<R: Wait>(
-    rt: &R,
-    hub: &ParcelHub<Box<u32>>,
-    bells: &Bells,
-    pass: &mut ParcelPass<Box<u32>>,
-    value: Box<u32>,
-) -> Fates
-    requires of { IsOf hub.now pass.old }
-    ensures kept { Keeps hub.now pass.old pass.new }
-{
-    match send(rt, hub, bells, pass, value) {
-        Ok(_) => OVER,
-        Err(_) => NONE,
-    }
-}
-
 /// Sends a box with this number.
 fn send_one<R: Wait>(
     rt: &R,
@@ -205,9 +167,11 @@ fn send_one<R: Wait>(
         return LOST;
     };
     match how {
-        How::GivesUp => send_or_give_up(hub, pass, value),
-        How::Looks => send_at_once(hub, pass, value),
-        How::Sleeps => send_asleep(rt, hub, bells, pass, value),
+        How::Sleeps => match send(rt, hub, bells, pass, value) {
+            Ok(_) => OVER,
+            Err(_) => NONE,
+        },
+        _ => send_or_give_up(hub, pass, value),
     }
 }
 
@@ -293,7 +257,7 @@ fn receive_one<R: Wait>(
             Err(_) => None,
         },
     };
-    over_if(number == Some(due))
+    if number == Some(due) { OVER } else { NONE }
 }
 
 /// The part of one that sends boxes with the numbers from 0 on.
@@ -431,19 +395,19 @@ fn at_once<R: Threads + Wait + Sync + Clock>(
 
 /// Whether no box was lost, each came out once, and none came back, was refused or is left where the line has no cause for it: what became
 /// of those at who sends, at who receives and at who ends the channel, and of those that were left.
-fn agree(line: Line, fates: [Fates; 4]) -> bool {
+fn agree(line: &Line, fates: [Fates; 4]) -> bool {
     let [sent, came, drained, left] = fates;
-    let [first, second] = line.senders;
+    let (first, second) = line.senders;
     let all = sent.and(came).and(drained).and(left);
     let back = sent
         .back
         .saturating_add(all.ended)
         .saturating_add(left.over);
     let out = came.over.saturating_add(drained.over).saturating_add(back);
-    let each_once = all.lost == 0 && out == first.times.saturating_add(second.times);
-    let none_back = line.comes_back || sent.back == 0;
-    let none_ended = line.ends || (all.ended == 0 && left.over == 0 && sent.over == came.over);
-    each_once && none_back && none_ended
+    let each_once = (all.lost == 0) & (out == first.times.saturating_add(second.times));
+    let none_back = line.comes_back | (sent.back == 0);
+    let none_ended = (all.ended == 0) & (left.over == 0) & (sent.over == came.over);
+    each_once & none_back & (line.ends | none_ended)
 }
 
 /// Whether the line goes so on this channel, whose first pass takes out what is left.
@@ -453,12 +417,12 @@ fn goes_on<R: Threads + Wait + Sync + Clock>(
     bells: &Bells,
     hub: &ParcelHub<Box<u32>>,
     main: &mut ParcelPass<Box<u32>>,
-    line: Line,
+    line: &Line,
 ) -> bool
     requires main { IsOf hub.now main.old × IsFirst main.old }
     requires new { (seen_by main.old).given ≡ 0 ∷ [] }
 {
-    let [first, second] = line.senders;
+    let (first, second) = line.senders;
     let last = if line.ends { Task::Ends } else { Task::Nothing };
     let mut workers = [
         new_worker(hub.split(main, 1), Task::Sends, first),
@@ -481,7 +445,7 @@ fn goes<R: Threads + Wait + Sync + Clock>(
     kind: Kind,
     places: u32,
     parcels: u32,
-    line: Line,
+    line: &Line,
 ) -> bool
     requires kind { KeepsAll kind }
     requires places { (1 ≤ places) × (places ≤ 1048576) }
@@ -509,7 +473,7 @@ const TRIES_AND_GIVES_UP: Part = Part {
 };
 
 const BOXES_GO_OVER_OR_COME_BACK: Line = Line {
-    senders: [TRIES_AND_GIVES_UP, NOTHING],
+    senders: (TRIES_AND_GIVES_UP, NOTHING),
     receiver: TRIES_AND_GIVES_UP,
     ends: false,
     comes_back: true,
@@ -519,14 +483,14 @@ const BOXES_GO_OVER_OR_COME_BACK: Line = Line {
 const BOXES: u32 = 100_000;
 
 const BOXES_ARRIVE_IN_ORDER: Line = Line {
-    senders: [
+    senders: (
         Part {
             how: How::GivesUp,
             times: BOXES,
             pause: 0,
         },
         NOTHING,
-    ],
+    ),
     receiver: Part {
         how: How::Looks,
         times: BOXES,
@@ -544,7 +508,7 @@ const SLEEPS: Part = Part {
 };
 
 const THREADS_THAT_SLEEP_MOVE_EACH_BOX: Line = Line {
-    senders: [SLEEPS, NOTHING],
+    senders: (SLEEPS, NOTHING),
     receiver: SLEEPS,
     ends: false,
     comes_back: false,
@@ -557,21 +521,21 @@ const OFTEN_UNTIL_THE_END: Part = Part {
 };
 
 const FOUR_THREADS_LOSE_NO_BOX: Line = Line {
-    senders: [OFTEN_UNTIL_THE_END, OFTEN_UNTIL_THE_END],
+    senders: (OFTEN_UNTIL_THE_END, OFTEN_UNTIL_THE_END),
     receiver: OFTEN_UNTIL_THE_END,
     ends: true,
     comes_back: true,
 };
 
 /// Whether each line goes so, and a sink and a stream go so too.
-fn found<R: Threads + Wait + Sync + Clock + RandomSource + AllocGlobal>(
+pub(crate) fn found<R: Threads + Wait + Sync + Clock + RandomSource + AllocGlobal>(
     rt: &R,
-    alloc: Global,
     bells: &Bells,
 ) -> [bool; 7] {
+    let alloc = rt.alloc();
     let met = Kind::Rendezvous;
-    let (back, order) = (BOXES_GO_OVER_OR_COME_BACK, BOXES_ARRIVE_IN_ORDER);
-    let (sleep, four) = (THREADS_THAT_SLEEP_MOVE_EACH_BOX, FOUR_THREADS_LOSE_NO_BOX);
+    let (back, order) = (&BOXES_GO_OVER_OR_COME_BACK, &BOXES_ARRIVE_IN_ORDER);
+    let (sleep, four) = (&THREADS_THAT_SLEEP_MOVE_EACH_BOX, &FOUR_THREADS_LOSE_NO_BOX);
     [
         goes(rt, alloc, bells, met, 100_000, 50_000, back),
         goes(rt, alloc, bells, Kind::Unlimited, 100_000, 100_000, order),
@@ -581,14 +545,4 @@ fn found<R: Threads + Wait + Sync + Clock + RandomSource + AllocGlobal>(
         parcel_streams::went(rt, bells, true),
         parcel_streams::went(rt, bells, false),
     ]
-}
-
-/// All checks of channels of owned values: calls, threads, and a sink and a stream.
-#[test]
-fn each_check_goes_as_its_name_says(rt: HostRuntime) -> Result<(), Fail> {
-    let bells = Bells::new(rt.alloc())?;
-    let rows = parcel_rows::found(rt.alloc());
-    let found = found(&rt, rt.alloc(), &bells);
-    assert_eq!(rt; (rows, found), ([true; 11], [true; 7]));
-    Ok(())
 }

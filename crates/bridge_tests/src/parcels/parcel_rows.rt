@@ -368,7 +368,7 @@ fn went(
     let right = are_right(&hub, &mut one, &mut two, rows);
     let (Seat { pass: one, .. }, Seat { pass: two, .. }) = (one, two);
     let rest = rest_of(hub, main, one, two);
-    right && rest.len() == parcels as usize && left_in(rest.as_slice()) == left
+    right & (rest.len() == parcels as usize) & (left_in(rest.as_slice()) == left)
 }
 
 const SENT: Answer = (Word::Sent, 99, 0);
@@ -461,7 +461,7 @@ fn lets_go(hub: &ParcelHub<Value>, mut one: Seat, two: &mut Seat) -> bool
     let first = send(hub, &mut one, 70) == SENT;
     let second = send(hub, &mut one, 71) == SENT;
     drop(one);
-    first && second && receive(hub, two) == (Word::Value, 70, 0)
+    first & second & (receive(hub, two) == (Word::Value, 70, 0))
 }
 
 /// A channel can be let go although a pass was.

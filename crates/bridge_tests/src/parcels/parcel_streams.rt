@@ -60,19 +60,19 @@ fn take_turns<R: Wait + RandomSource + AllocGlobal>(
     }
 }
 
-/// What a poll of the task comes to: 0 where it is pending, and else the number that it gives, or 99.
-fn polled(task: &MockTask, stream: &mut ParcelStream<'_, u32>) -> u32 {
-    match task.enter(|cx| stream.poll_next(cx)) {
-        Poll::Pending => 0,
-        Poll::Ready(Some(Ok(number))) => number,
-        Poll::Ready(_) => 99,
-    }
-}
-
-/// Whether the poll comes to this, and whether the task is woken then.
-fn polls_to(task: &MockTask, stream: &mut ParcelStream<'_, u32>, number: u32, woken: bool) -> bool {
-    let found = polled(task, stream);
-    found == number && task.is_woken() == woken
+/// Whether a poll of the task is pending, or gives this number where one is due, and whether the task is woken then.
+fn polls_to(
+    task: &MockTask,
+    stream: &mut ParcelStream<'_, u32>,
+    due: Option<u32>,
+    woken: bool,
+) -> bool {
+    let found = match task.enter(|cx| stream.poll_next(cx)) {
+        Poll::Pending => due.is_none(),
+        Poll::Ready(Some(Ok(number))) => due == Some(number),
+        Poll::Ready(_) => false,
+    };
+    found & (task.is_woken() == woken)
 }
 
 /// A stream sleeps until it is woken, and receives 7.
@@ -87,11 +87,11 @@ fn is_woken<R: Wait>(
     requires two { IsOf hub.now two.old }
     ensures two { IsOf hub.now two.new }
 {
-    let sleeps = polls_to(task, stream, 0, false);
+    let sleeps = polls_to(task, stream, None, false);
     let sent = send(rt, hub, bells, two, 7).is_ok();
     let woken = task.is_woken();
-    let came = polled(task, stream) == 7;
-    sleeps & sent & woken & came & (polled(task, stream) == 0)
+    let came = polls_to(task, stream, Some(7), false);
+    sleeps & sent & woken & came & polls_to(task, stream, None, false)
 }
 
 /// The same; and one that is dropped takes its wait back.

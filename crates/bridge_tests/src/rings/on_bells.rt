@@ -1,20 +1,20 @@
-//! All checks of rings. Those whose threads sleep have the same bells, and each has a ring of its own.
+//! Checks of rings by threads, by a stream and a sink, and by a select. Those whose threads sleep have the same bells, and each has a ring
+//! of its own.
 ghost use Rattle.std.specs.Prelude.{◌≤◌, ◌^◌};
 ghost use Rattle.bridge_tests.specs.RingPasses.{AreThree};
 
 use crate::rings::ring_calls::{Three, new_ring};
 use crate::rings::ring_lines::{
     BOXES_ARRIVE_ONCE_AND_IN_ORDER, THREADS_THAT_SLEEP_MOVE_EACH_NUMBER_ONCE,
-    TWO_SENDERS_HAND_OVER_ALL_THEY_HAVE, all_come, nobody_is_forgotten,
+    TWO_SENDERS_HAND_OVER_ALL_THEY_HAVE, Wanted, goes, nobody_is_forgotten,
 };
 use crate::rings::selects::{Check as Select, went as selects};
-use crate::rings::{handings, ring_rows, who_sleeps};
+use crate::rings::{handings, who_sleeps};
 use ring_bridge::Bells;
 use ring_channel::Ring;
-use std::alloc::{AllocGlobal, Global};
+use std::alloc::AllocGlobal;
 use std::random::RandomSource;
 use std::sync::Wait;
-use std::test::Fail;
 use std::thread::Threads;
 
 /// What is checked: the functions of these names.
@@ -61,28 +61,24 @@ fn went<R: Threads + Wait + RandomSource + Sync + AllocGlobal>(
 }
 
 /// Whether each check by threads, by a stream and a sink, and by a select went as its name says.
-fn found<R: Threads + Wait + RandomSource + Sync + AllocGlobal>(
+pub(crate) fn found<R: Threads + Wait + RandomSource + Sync + AllocGlobal>(
     rt: &R,
-    alloc: Global,
     bells: &Bells,
 ) -> [bool; 12] {
-    let (hand, sleep) = (
-        TWO_SENDERS_HAND_OVER_ALL_THEY_HAVE,
-        THREADS_THAT_SLEEP_MOVE_EACH_NUMBER_ONCE,
+    let alloc = rt.alloc();
+    let hand = &TWO_SENDERS_HAND_OVER_ALL_THEY_HAVE;
+    let sleep = &THREADS_THAT_SLEEP_MOVE_EACH_NUMBER_ONCE;
+    let boxes = &BOXES_ARRIVE_ONCE_AND_IN_ORDER;
+    let (all, slept, tried) = (
+        Wanted::All(1_000),
+        Wanted::InOrder(3_000),
+        Wanted::InOrder(2_000),
     );
     [
-        all_come(rt, alloc, bells, 1, 1_000, false, hand),
+        goes(rt, alloc, bells, 1, 1_000, all, hand),
         went(rt, bells, 1, 100, Check::AValueThatNobodyClaimedIsLeft),
-        all_come(rt, alloc, bells, 2, 3_000, true, sleep),
-        all_come(
-            rt,
-            alloc,
-            bells,
-            2,
-            2_000,
-            true,
-            BOXES_ARRIVE_ONCE_AND_IN_ORDER,
-        ),
+        goes(rt, alloc, bells, 2, 3_000, slept, sleep),
+        goes(rt, alloc, bells, 2, 2_000, tried, boxes),
         went(rt, bells, 2, 100, Check::ASinkAndAStreamTakeTurns),
         went(rt, bells, 2, 100, Check::AStreamSleepsUntilItIsNamed),
         selects(rt, bells, 2, Select::TheFirstClauseThatMayGoOnIsChosen),
@@ -92,13 +88,4 @@ fn found<R: Threads + Wait + RandomSource + Sync + AllocGlobal>(
         nobody_is_forgotten(rt, alloc, bells, 2),
         nobody_is_forgotten(rt, alloc, bells, 3),
     ]
-}
-
-#[test]
-fn each_check_goes_as_its_name_says(rt: HostRuntime) -> Result<(), Fail> {
-    let bells = Bells::new(rt.alloc())?;
-    let rows = ring_rows::found(rt.alloc());
-    let found = found(&rt, rt.alloc(), &bells);
-    assert_eq!(rt; (rows, found), ([true; 9], [true; 12]));
-    Ok(())
 }

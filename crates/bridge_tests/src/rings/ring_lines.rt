@@ -104,23 +104,23 @@ const TWICE_AND_CLOSES: Part = Part {
 };
 
 /// Two that send and two that receive.
-type Line = ([Part; 2], [Part; 2]);
+type Line = ((Part, Part), (Part, Part));
 
-const LINES: [Line; 12] = [
-    ([FOUR_TIMES, NOTHING], [TWICE, TWICE]),
-    ([THRICE, NOTHING], [THRICE, NOTHING]),
-    ([ONCE_AND_CLOSES, NOTHING], [ONCE, ONCE_OR_LEAVES]),
-    ([ONCE, ONCE_OR_LEAVES], [ONCE, NOTHING]),
-    ([ONCE_AND_CLOSES, NOTHING], [ONCE, ONCE]),
-    ([ONCE_AND_CLOSES, ONCE], [ONCE, NOTHING]),
-    ([TWICE_AND_CLOSES, CLOSES], [TWICE, NOTHING]),
-    ([ONCE, ONCE], [ONCE, ONCE]),
-    ([TWICE, TWICE], [FOUR_TIMES, NOTHING]),
-    ([ONCE, ONCE], [ONCE, ONCE_OR_LEAVES]),
-    ([THRICE, NOTHING], [TWICE, ONCE_OR_LEAVES]),
+const LINES: &[Line] = &[
+    ((FOUR_TIMES, NOTHING), (TWICE, TWICE)),
+    ((THRICE, NOTHING), (THRICE, NOTHING)),
+    ((ONCE_AND_CLOSES, NOTHING), (ONCE, ONCE_OR_LEAVES)),
+    ((ONCE, ONCE_OR_LEAVES), (ONCE, NOTHING)),
+    ((ONCE_AND_CLOSES, NOTHING), (ONCE, ONCE)),
+    ((ONCE_AND_CLOSES, ONCE), (ONCE, NOTHING)),
+    ((TWICE_AND_CLOSES, CLOSES), (TWICE, NOTHING)),
+    ((ONCE, ONCE), (ONCE, ONCE)),
+    ((TWICE, TWICE), (FOUR_TIMES, NOTHING)),
+    ((ONCE, ONCE), (ONCE, ONCE_OR_LEAVES)),
+    ((THRICE, NOTHING), (TWICE, ONCE_OR_LEAVES)),
     (
-        [TWICE_OR_LEAVES, TWICE_OR_LEAVES],
-        [TWICE_OR_LEAVES, TWICE_OR_LEAVES],
+        (TWICE_OR_LEAVES, TWICE_OR_LEAVES),
+        (TWICE_OR_LEAVES, TWICE_OR_LEAVES),
     ),
 ];
 
@@ -147,9 +147,9 @@ fn with(came: Came, place: u64, number: u32) -> Came {
     Came {
         count: came.count.wrapping_add(1),
         sum: came.sum.wrapping_add(number),
-        rises: came.rises && place >= came.next,
+        rises: came.rises & (place >= came.next),
         next: place.wrapping_add(1),
-        in_turn: came.in_turn && number == came.count.wrapping_mul(10).wrapping_add(1),
+        in_turn: came.in_turn & (number == came.count.wrapping_mul(10).wrapping_add(1)),
     }
 }
 
@@ -158,9 +158,9 @@ fn both(a: Came, b: Came) -> Came {
     Came {
         count: a.count.wrapping_add(b.count),
         sum: a.sum.wrapping_add(b.sum),
-        rises: a.rises && b.rises,
+        rises: a.rises & b.rises,
         next: 0,
-        in_turn: a.in_turn && b.in_turn,
+        in_turn: a.in_turn & b.in_turn,
     }
 }
 
@@ -447,12 +447,12 @@ fn run_on<R: Threads + Wait + Sync>(
     main: &mut RingPass<Box<u32>>,
     bells: &Bells,
     alloc: Global,
-    line: Line,
+    line: &Line,
 ) -> Moved
     requires main { IsOf ring.now main.old × IsFirst main.old }
     requires new { ((seen_by main.old).given ≡ 0 ∷ []) × ((seen_by main.old).tags ≡ 0 ∷ []) }
 {
-    let ([first, second], [third, fourth]) = line;
+    let ((first, second), (third, fourth)) = *line;
     let mut workers = [
         new_worker(ring.split(main, 1), 1, true, first),
         new_worker(ring.split(main, 2), 2, true, second),
@@ -470,47 +470,52 @@ fn run_on<R: Threads + Wait + Sync>(
     }
 }
 
-/// The same on a ring of its own, of so many slots and places. None: there is no such ring.
-fn run_line<R: Threads + Wait + Sync>(
+/// What is wanted of a line.
+#[derive(Clone, Copy)]
+pub(crate) enum Wanted {
+    /// Each number that was sent comes once or is left, and the places of each receiver rise.
+    EachOnce,
+    /// So many are sent besides, and all of them come.
+    All(u32),
+    /// They come in order, and then the ring is over.
+    InOrder(u32),
+}
+
+/// Whether that came which is wanted.
+fn agree(moved: Moved, wanted: Wanted) -> bool {
+    let Moved {
+        sent,
+        came,
+        left,
+        over,
+    } = moved;
+    let (to_send, to_come, in_order) = match wanted {
+        Wanted::EachOnce => (sent.count, came.count, false),
+        Wanted::All(count) => (count, count, false),
+        Wanted::InOrder(count) => (count, count, true),
+    };
+    let received = both(came, left);
+    let once = (sent.count == received.count) & (sent.sum == received.sum);
+    let rise = sent.rises & received.rises;
+    let all = (sent.count == to_send) & (came.count == to_come);
+    once & rise & all & (!in_order | (came.in_turn & over))
+}
+
+/// Whether a line goes so on a ring of its own, of so many slots and places.
+pub(crate) fn goes<R: Threads + Wait + Sync>(
     rt: &R,
     alloc: Global,
     bells: &Bells,
     slots: u32,
     places: u64,
-    line: Line,
-) -> Option<Moved>
+    wanted: Wanted,
+    line: &Line,
+) -> bool
     requires places { places ≤ 2 ^ 62 }
 {
     match Ring::<Box<u32>>::with_places(alloc, slots, places) {
-        Ok((ring, mut main)) => Some(run_on(rt, &ring, &mut main, bells, alloc, line)),
-        Err(_) => None,
-    }
-}
-
-/// Whether each number that was sent came once or is left, and the places of each receiver rose.
-fn agree(moved: Moved) -> bool {
-    let Moved {
-        sent,
-        came,
-        left,
-        ..
-    } = moved;
-    let received = both(came, left);
-    let all = sent.count == received.count && sent.sum == received.sum;
-    all && sent.rises && received.rises
-}
-
-/// Whether a line goes so on a ring of so many slots.
-fn goes_on<R: Threads + Wait + Sync>(
-    rt: &R,
-    alloc: Global,
-    bells: &Bells,
-    slots: u32,
-    line: Line,
-) -> bool {
-    match run_line(rt, alloc, bells, slots, 1 << 62, line) {
-        Some(moved) => agree(moved),
-        None => false,
+        Ok((ring, mut main)) => agree(run_on(rt, &ring, &mut main, bells, alloc, line), wanted),
+        Err(_) => false,
     }
 }
 
@@ -522,33 +527,13 @@ pub(crate) fn nobody_is_forgotten<R: Threads + Wait + Sync>(
     slots: u32,
 ) -> bool {
     let mut all = true;
-    let lines = LINES;
-    for &line in &lines {
+    for line in LINES {
         for _ in 0..TURNS {
-            let went = goes_on(rt, alloc, bells, slots, line);
+            let went = goes(rt, alloc, bells, slots, 1 << 62, Wanted::EachOnce, line);
             all = all & went;
         }
     }
     all
-}
-
-/// Whether so many are sent and all of them come; and in order until the ring is over, where that is wanted.
-pub(crate) fn all_come<R: Threads + Wait + Sync>(
-    rt: &R,
-    alloc: Global,
-    bells: &Bells,
-    slots: u32,
-    count: u32,
-    in_order: bool,
-    line: Line,
-) -> bool {
-    match run_line(rt, alloc, bells, slots, u64::from(count), line) {
-        Some(moved) => {
-            let all = agree(moved) && moved.sent.count == count && moved.came.count == count;
-            all && (!in_order || moved.came.in_turn && moved.over)
-        }
-        None => false,
-    }
 }
 
 /// Hands 500 numbers over.
@@ -566,8 +551,8 @@ const RECEIVES: Part = Part {
 };
 
 pub(crate) const TWO_SENDERS_HAND_OVER_ALL_THEY_HAVE: Line = (
-    [HANDS_OVER, HANDS_OVER],
-    [RECEIVES, NOTHING],
+    (HANDS_OVER, HANDS_OVER),
+    (RECEIVES, NOTHING),
 );
 
 /// Sends 3,000 numbers, and closes.
@@ -585,8 +570,8 @@ const RECEIVES_ASLEEP: Part = Part {
 };
 
 pub(crate) const THREADS_THAT_SLEEP_MOVE_EACH_NUMBER_ONCE: Line = (
-    [SENDS_ASLEEP, NOTHING],
-    [RECEIVES_ASLEEP, NOTHING],
+    (SENDS_ASLEEP, NOTHING),
+    (RECEIVES_ASLEEP, NOTHING),
 );
 
 /// Sends 2,000 boxes, and closes.
@@ -603,6 +588,6 @@ const RECEIVES_BY_TRIES: Part = Part {
 };
 
 pub(crate) const BOXES_ARRIVE_ONCE_AND_IN_ORDER: Line = (
-    [SENDS_BY_TRIES, NOTHING],
-    [RECEIVES_BY_TRIES, NOTHING],
+    (SENDS_BY_TRIES, NOTHING),
+    (RECEIVES_BY_TRIES, NOTHING),
 );

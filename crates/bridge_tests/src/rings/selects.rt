@@ -1,9 +1,8 @@
 //! A select over two rings: call by call, and by a thread that sleeps.
 ghost use Rattle.std.specs.Prelude.{◌≡◌};
 ghost use Rattle.ring_channel.specs.Passes.{tag_of};
-ghost use Rattle.bridge_tests.specs.RingPasses.{AreThree, IsMain, IsOther};
+ghost use Rattle.bridge_tests.specs.RingPasses.{IsNew, IsPass};
 
-use crate::rings::ring_calls::{Three, new_ring};
 use ring_bridge::{Bells, Chosen, InOrder, ReceiveClause, SendClause, receive, select, send};
 use ring_channel::{Called, Ring, RingPass, SendOutcome};
 use std::alloc::AllocGlobal;
@@ -45,8 +44,8 @@ fn goes_by_turns<R: Wait>(
     sender: &mut RingPass<u32>,
     clause: &mut Both<'_>,
 ) -> bool
-    requires main { IsMain ring.now main.old }
-    requires sender { IsMain other.now sender.old }
+    requires main { IsPass ring.now 0 main.old }
+    requires sender { IsPass other.now 0 sender.old }
     requires tag { (1 ≡ tag_of clause.old.first.pass) × (1 ≡ tag_of clause.old.second.pass) }
 {
     other.try_send(sender, 7);
@@ -68,24 +67,18 @@ fn first_is_chosen<R: Wait>(
     rt: &R,
     bells: &Bells,
     ring: &Ring<u32>,
-    three: Three<u32>,
+    main: &mut RingPass<u32>,
     other: &Ring<u32>,
-    of_other: Three<u32>,
+    sender: &mut RingPass<u32>,
 ) -> bool
-    requires three { AreThree ring.now three.main three.one three.two }
-    requires of_other { AreThree other.now of_other.main of_other.one of_other.two }
+    requires main { IsNew ring.now main.old }
+    requires sender { IsNew other.now sender.old }
 {
-    let Three { mut main, one, .. } = three;
-    let Three {
-        main: mut sender,
-        one: another,
-        ..
-    } = of_other;
     let mut clause = InOrder {
-        first: ReceiveClause::new(ring, one),
-        second: ReceiveClause::new(other, another),
+        first: ReceiveClause::new(ring, ring.split(main, 1)),
+        second: ReceiveClause::new(other, other.split(sender, 1)),
     };
-    goes_by_turns(rt, bells, ring, &mut main, other, &mut sender, &mut clause)
+    goes_by_turns(rt, bells, ring, main, other, sender, &mut clause)
 }
 
 /// Whether 7 comes of the second clause as long as 3 fills the ring of the first, which sends 4 then.
@@ -96,7 +89,7 @@ fn sends_once_there_is_room<R: Wait>(
     main: &mut RingPass<u32>,
     clause: &mut InOrder<SendClause<'_, u32>, ReceiveClause<'_, u32>>,
 ) -> bool
-    requires main { IsMain ring.now main.old }
+    requires main { IsPass ring.now 0 main.old }
     requires tag { (1 ≡ tag_of clause.old.first.pass) × (1 ≡ tag_of clause.old.second.pass) }
 {
     let received = matches!(select(rt, bells, clause, 1), Chosen::Second(Some((0, 7))));
@@ -111,26 +104,20 @@ fn no_room_is_not_chosen<R: Wait>(
     rt: &R,
     bells: &Bells,
     ring: &Ring<u32>,
-    three: Three<u32>,
+    main: &mut RingPass<u32>,
     other: &Ring<u32>,
-    of_other: Three<u32>,
+    sender: &mut RingPass<u32>,
 ) -> bool
-    requires three { AreThree ring.now three.main three.one three.two }
-    requires of_other { AreThree other.now of_other.main of_other.one of_other.two }
+    requires main { IsNew ring.now main.old }
+    requires sender { IsNew other.now sender.old }
 {
-    let Three { mut main, one, .. } = three;
-    let Three {
-        main: mut sender,
-        one: another,
-        ..
-    } = of_other;
-    ring.try_send(&mut main, 3);
-    other.try_send(&mut sender, 7);
     let mut clause = InOrder {
-        first: SendClause::new(ring, one, 4),
-        second: ReceiveClause::new(other, another),
+        first: SendClause::new(ring, ring.split(main, 1), 4),
+        second: ReceiveClause::new(other, other.split(sender, 1)),
     };
-    sends_once_there_is_room(rt, bells, ring, &mut main, &mut clause)
+    ring.try_send(main, 3);
+    other.try_send(sender, 7);
+    sends_once_there_is_room(rt, bells, ring, main, &mut clause)
 }
 
 /// Sends the numbers from 0 on, each on one ring and then on the other.
@@ -142,8 +129,8 @@ fn send_on_both<R: Wait>(
     other: &Ring<u32>,
     another: &mut RingPass<u32>,
 )
-    requires pass { IsOther 2 ring.now pass.old }
-    requires another { IsOther 2 other.now another.old }
+    requires pass { IsPass ring.now 2 pass.old }
+    requires another { IsPass other.now 2 another.old }
 {
     for number in 0..NUMBERS {
         let _ = send(rt, other, bells, another, 2, number);
@@ -152,24 +139,12 @@ fn send_on_both<R: Wait>(
 }
 
 /// Receives all of them. Answers how many came from each ring with the number that was due.
-fn receive_of_both<R: Wait>(
-    rt: &R,
-    bells: &Bells,
-    ring: &Ring<u32>,
-    pass: RingPass<u32>,
-    other: &Ring<u32>,
-    another: RingPass<u32>,
-) -> [u32; 2]
-    requires pass { IsOther 1 ring.now pass }
-    requires another { IsOther 1 other.now another }
+fn receive_of_both<R: Wait>(rt: &R, bells: &Bells, clause: &mut Both<'_>) -> [u32; 2]
+    requires tag { (1 ≡ tag_of clause.old.first.pass) × (1 ≡ tag_of clause.old.second.pass) }
 {
     let mut due = [0u32; 2];
-    let mut clause = InOrder {
-        first: ReceiveClause::new(ring, pass),
-        second: ReceiveClause::new(other, another),
-    };
     for _ in 0..2 * NUMBERS {
-        match choose(rt, bells, &mut clause) {
+        match choose(rt, bells, clause) {
             (1, Some((_, number))) if number == due[0] => due[0] = due[0].wrapping_add(1),
             (2, Some((_, number))) if number == due[1] => due[1] = due[1].wrapping_add(1),
             _ => {}
@@ -178,51 +153,30 @@ fn receive_of_both<R: Wait>(
     due
 }
 
-/// Both at once.
-fn by_two<R: Threads + Wait + Sync>(
-    rt: &R,
-    bells: &Bells,
-    ring: &Ring<u32>,
-    one: RingPass<u32>,
-    mut two: RingPass<u32>,
-    other: &Ring<u32>,
-    another_one: RingPass<u32>,
-    mut another_two: RingPass<u32>,
-) -> [u32; 2]
-    requires one { IsOther 1 ring.now one }
-    requires two { IsOther 2 ring.now two }
-    requires another_one { IsOther 1 other.now another_one }
-    requires another_two { IsOther 2 other.now another_two }
-{
-    let (_, due) = join(
-        rt,
-        || send_on_both(rt, bells, ring, &mut two, other, &mut another_two),
-        ||
-            requires { IsOther 1 ring.now one × IsOther 1 other.now another_one }
-        { receive_of_both(rt, bells, ring, one, other, another_one) },
-    );
-    due
-}
-
 /// A thread that selects receives all of both.
 fn receives_all<R: Threads + Wait + Sync>(
     rt: &R,
     bells: &Bells,
     ring: &Ring<u32>,
-    three: Three<u32>,
+    main: &mut RingPass<u32>,
     other: &Ring<u32>,
-    of_other: Three<u32>,
+    sender: &mut RingPass<u32>,
 ) -> bool
-    requires three { AreThree ring.now three.main three.one three.two }
-    requires of_other { AreThree other.now of_other.main of_other.one of_other.two }
+    requires main { IsNew ring.now main.old }
+    requires sender { IsNew other.now sender.old }
 {
-    let Three { one, two, .. } = three;
-    let Three {
-        one: another_one,
-        two: another_two,
-        ..
-    } = of_other;
-    let due = by_two(rt, bells, ring, one, two, other, another_one, another_two);
+    let mut clause = InOrder {
+        first: ReceiveClause::new(ring, ring.split(main, 1)),
+        second: ReceiveClause::new(other, other.split(sender, 1)),
+    };
+    let (mut two, mut another) = (ring.split(main, 2), other.split(sender, 2));
+    let (_, due) = join(
+        rt,
+        || send_on_both(rt, bells, ring, &mut two, other, &mut another),
+        || -> [u32; 2]
+            requires tag { (1 ≡ tag_of clause.first.pass) × (1 ≡ tag_of clause.second.pass) }
+        { receive_of_both(rt, bells, &mut clause) },
+    );
     due == [NUMBERS; 2]
 }
 
@@ -231,41 +185,24 @@ fn went_on<R: Threads + Wait + Sync>(
     rt: &R,
     bells: &Bells,
     ring: &Ring<u32>,
-    three: Three<u32>,
+    main: &mut RingPass<u32>,
     other: &Ring<u32>,
-    of_other: Three<u32>,
+    sender: &mut RingPass<u32>,
     check: Check,
 ) -> bool
-    requires three { AreThree ring.now three.main three.one three.two }
-    requires of_other { AreThree other.now of_other.main of_other.one of_other.two }
+    requires main { IsNew ring.now main.old }
+    requires sender { IsNew other.now sender.old }
 {
     match check {
         Check::TheFirstClauseThatMayGoOnIsChosen => {
-            first_is_chosen(rt, bells, ring, three, other, of_other)
+            first_is_chosen(rt, bells, ring, main, other, sender)
         }
         Check::ASendThatHasNoRoomIsNotChosen => {
-            no_room_is_not_chosen(rt, bells, ring, three, other, of_other)
+            no_room_is_not_chosen(rt, bells, ring, main, other, sender)
         }
         Check::AThreadThatSelectsReceivesAllOfBoth => {
-            receives_all(rt, bells, ring, three, other, of_other)
+            receives_all(rt, bells, ring, main, other, sender)
         }
-    }
-}
-
-/// The same with a second ring of its own.
-fn went_beside<R: Threads + Wait + Sync + AllocGlobal>(
-    rt: &R,
-    bells: &Bells,
-    ring: &Ring<u32>,
-    three: Three<u32>,
-    slots: u32,
-    check: Check,
-) -> bool
-    requires three { AreThree ring.now three.main three.one three.two }
-{
-    match new_ring::<u32>(rt.alloc(), slots, 1_000) {
-        Ok((other, of_other)) => went_on(rt, bells, ring, three, &other, of_other, check),
-        Err(_) => false,
     }
 }
 
@@ -276,8 +213,11 @@ pub(crate) fn went<R: Threads + Wait + Sync + AllocGlobal>(
     slots: u32,
     check: Check,
 ) -> bool {
-    match new_ring::<u32>(rt.alloc(), slots, 1_000) {
-        Ok((ring, three)) => went_beside(rt, bells, &ring, three, slots, check),
-        Err(_) => false,
-    }
+    let Ok((ring, mut main)) = Ring::<u32>::with_places(rt.alloc(), slots, 1_000) else {
+        return false;
+    };
+    let Ok((other, mut sender)) = Ring::<u32>::with_places(rt.alloc(), slots, 1_000) else {
+        return false;
+    };
+    went_on(rt, bells, &ring, &mut main, &other, &mut sender, check)
 }

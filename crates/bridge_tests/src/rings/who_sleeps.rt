@@ -55,19 +55,18 @@ pub(crate) fn take_turns<R: Wait + RandomSource + AllocGlobal>(
     }
 }
 
-/// What a poll of the task comes to: 0 where it is pending, and else the number that it gives, or 99 at the end.
-fn polled(task: &MockTask, stream: &mut RingStream<'_, u32>) -> u32 {
-    match task.enter(|cx| stream.poll_next(cx)) {
-        Poll::Pending => 0,
-        Poll::Ready(Some(number)) => number,
-        Poll::Ready(None) => 99,
-    }
-}
-
-/// Whether the poll comes to this, and whether the task is woken then.
-fn polls_to(task: &MockTask, stream: &mut RingStream<'_, u32>, number: u32, woken: bool) -> bool {
-    let found = polled(task, stream);
-    found == number && task.is_woken() == woken
+/// Whether a poll of the task is pending, or gives this number where one is due, and whether the task is woken then.
+fn polls_to(
+    task: &MockTask,
+    stream: &mut RingStream<'_, u32>,
+    due: Option<u32>,
+    woken: bool,
+) -> bool {
+    let found = match task.enter(|cx| stream.poll_next(cx)) {
+        Poll::Pending => due.is_none(),
+        Poll::Ready(number) => due.is_some() & (number == due),
+    };
+    found & (task.is_woken() == woken)
 }
 
 /// A stream sleeps until it is named, and receives 7.
@@ -82,11 +81,11 @@ fn is_named<R: Wait>(
     requires two { IsOther 2 ring.now two.old }
     ensures two { IsOther 2 ring.now two.new }
 {
-    let sleeps = polls_to(task, stream, 0, false);
+    let sleeps = polls_to(task, stream, None, false);
     let sent = send(rt, ring, bells, two, 2, 7).is_ok();
     let woken = task.is_woken();
-    let came = polled(task, stream) == 7;
-    sleeps & sent & woken & came & polls_to(task, stream, 0, false)
+    let came = polls_to(task, stream, Some(7), false);
+    sleeps & sent & woken & came & polls_to(task, stream, None, false)
 }
 
 /// The same; and one that is dropped waits no more.

@@ -1,10 +1,11 @@
 //! Passes of a gate, one call after the other; and one that sleeps until another thread grants it the permit.
 
-ghost use Rattle.std.specs.Prelude.{◌≡◌, ◌<◌, false};
 ghost use Rattle.gates.specs.Passes.{IsOf};
 
 use crate::compare::compare;
+use co_base::Memory;
 use gates::{Acquired, Gate, GatePass, GaveUp, Released, TryAcquired, WaitState};
+use std::alloc::Global;
 use std::sync::Wait;
 use std::test::Fail;
 use std::thread::{Threads, join, sleep};
@@ -54,18 +55,20 @@ fn gives_up(gate: &Gate, pass: &mut GatePass, wanted: GaveUp) -> bool
     gate.give_up(pass) == wanted
 }
 
-/// Which calls of four passes on two permits answer so.
+/// Which calls of four passes on two permits answer so. In the end the first and the last hold one.
 fn right_of_four(
     gate: &Gate,
     a: &mut GatePass,
     b: &mut GatePass,
     c: &mut GatePass,
     d: &mut GatePass,
-) -> [bool; 15]
+) -> [bool; 16]
     requires a { IsOf gate.now a.old }
     requires b { IsOf gate.now b.old }
     requires c { IsOf gate.now c.old }
     requires d { IsOf gate.now d.old }
+    ensures a { IsOf gate.now a.new }
+    ensures b { IsOf gate.now b.new }
 {
     [
         acquires(gate, a, Acquired::Held),
@@ -83,65 +86,56 @@ fn right_of_four(
         releases(gate, b, 0, Released::Free),
         releases(gate, c, 0, Released::Free),
         gate.try_acquire(d) == TryAcquired::Held,
+        acquires(gate, a, Acquired::Held),
     ]
 }
 
-#[test]
-fn two_permits_go_round(rt: HostRuntime) -> Result<(), Fail> {
-    let (gate, mut a) = Gate::new(rt.alloc(), 2)?;
-    let mut b = gate.split(&mut a);
-    let mut c = gate.split(&mut a);
-    let mut d = gate.split(&mut a);
-    let found = right_of_four(&gate, &mut a, &mut b, &mut c, &mut d);
-    compare(&rt, &found, &[true; 15]);
-    Ok(())
-}
-
-/// Keeps the permit a while, and gives it back.
-fn give_later<R: Clock>(rt: &R, gate: &Gate, pass: GatePass) -> Released
-    requires of { IsOf gate.now pass }
-    requires held { 0 < pass.held }
+/// Keeps the permit a while, and gives it back: whether it did.
+fn give_later<R: Clock>(rt: &R, gate: &Gate, pass: &mut GatePass) -> bool
+    requires of { IsOf gate.now pass.old }
 {
-    let mut pass = pass;
+    if pass.held() == 0 {
+        return false;
+    }
     sleep(rt, Duration::from_millis(100));
-    gate.release_and_wake(&mut pass, 0)
+    gate.release_and_wake(pass, 0) != Released::Busy
 }
 
 /// Takes a permit, asleep until it is granted: how many it holds then.
-fn take_asleep<R: Wait>(rt: &R, gate: &Gate, pass: GatePass) -> u32
-    requires of { IsOf gate.now pass }
-    requires not { pass.waits ≡ false }
-    requires low { pass.number < 48 }
+fn take_asleep<R: Wait>(rt: &R, gate: &Gate, pass: &mut GatePass) -> u32
+    requires of { IsOf gate.now pass.old }
 {
-    let mut pass = pass;
-    gate.blocking_acquire(rt, &mut pass);
+    if pass.waits() || pass.number() >= 48 {
+        return 0;
+    }
+    gate.blocking_acquire(rt, pass);
     pass.held()
 }
 
-/// The one by a thread, and the other by another.
-fn by_two<R: Threads + Wait + Sync + Clock>(
+/// Which calls answer so, and, if all do: whether one that keeps a permit a while gives it back to a second, which sleeps until then, and how
+/// many the second holds.
+fn found<R: Threads + Wait + Sync + Clock>(
     rt: &R,
-    gate: &Gate,
-    a: GatePass,
-    b: GatePass,
-) -> (Released, u32)
-    requires a { IsOf gate.now a }
-    requires held { 0 < a.held }
-    requires b { IsOf gate.now b }
-    requires not { b.waits ≡ false }
-    requires low { b.number < 48 }
-{
-    join(rt, || give_later(rt, gate, a), || take_asleep(rt, gate, b))
+    alloc: Global,
+) -> Result<([bool; 16], bool, u32), Memory> {
+    let (gate, mut a) = Gate::new(alloc, 2)?;
+    let mut b = gate.split(&mut a);
+    let mut c = gate.split(&mut a);
+    let mut d = gate.split(&mut a);
+    let right = right_of_four(&gate, &mut a, &mut b, &mut c, &mut d);
+    if right != [true; 16] {
+        return Ok((right, false, 0));
+    }
+    let (given_back, held) = join(
+        rt,
+        || give_later(rt, &gate, &mut a),
+        || take_asleep(rt, &gate, &mut b),
+    );
+    Ok((right, given_back, held))
 }
 
 #[test]
-fn one_that_sleeps_wakes_with_the_permit(rt: HostRuntime) -> Result<(), Fail> {
-    let (gate, mut a) = Gate::new(rt.alloc(), 1)?;
-    let b = gate.split(&mut a);
-    let Acquired::Held = gate.acquire(&mut a) else {
-        panic!(rt; "the permit is free")
-    };
-    let (released, held) = by_two(&rt, &gate, a, b);
-    compare(&rt, &(released == Released::Busy, held), &(false, 1));
+fn two_permits_go_round_and_one_that_sleeps_wakes_with_one(rt: HostRuntime) -> Result<(), Fail> {
+    compare(&rt, &found(&rt, rt.alloc())?, &([true; 16], true, 1));
     Ok(())
 }

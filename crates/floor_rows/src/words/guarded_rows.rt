@@ -1,8 +1,10 @@
-//! One value, and two seats; and the same by two threads.
+//! One value: two threads that count it up, and two seats, one call after the other.
 ghost use Rattle.guarded.specs.Guards.{IsOf, HasNothing};
 
 use crate::compare::compare;
+use co_base::Memory;
 use guarded::{GuardSeat, Guarded};
+use std::alloc::Global;
 use std::sync::Wait;
 use std::test::Fail;
 use std::thread::{Threads, join};
@@ -24,54 +26,41 @@ fn one_after_the_other(
     guarded.try_lock(second)
 }
 
-#[test]
-fn one_of_two_has_the_value(rt: HostRuntime) -> Result<(), Fail> {
-    let (guarded, mut first) = Guarded::new(rt.alloc(), 7u32)?;
-    let mut second = guarded.split(&mut first);
-    let found = one_after_the_other(&guarded, &mut first, &mut second);
-    compare(&rt, &found, &Some(8));
-    Ok(())
-}
-
 /// How often the value is asked for.
 const TRIES: u32 = 20_000;
 
 /// Takes the value where it is at home, and brings it back one larger. Answers how often it did.
-fn count_up(guarded: &Guarded<u32>, seat: GuardSeat<u32>) -> u32
-    requires of { IsOf guarded.now seat }
-    requires nothing { HasNothing seat }
+fn count_up(guarded: &Guarded<u32>, seat: &mut GuardSeat<u32>) -> u32
+    requires seat { IsOf guarded.now seat.old × HasNothing seat.old }
 {
-    let mut seat = seat;
     let mut times = 0u32;
     for _ in 0..TRIES {
-        if let Some(value) = guarded.try_lock(&mut seat) {
-            guarded.unlock(&mut seat, value.wrapping_add(1));
+        if let Some(value) = guarded.try_lock(seat) {
+            guarded.unlock(seat, value.wrapping_add(1));
             times = times.wrapping_add(1);
         }
     }
     times
 }
 
-/// The same by two threads.
-fn by_two<R: Threads + Wait + Sync>(
-    rt: &R,
-    guarded: &Guarded<u32>,
-    one: GuardSeat<u32>,
-    two: GuardSeat<u32>,
-) -> (u32, u32)
-    requires one { IsOf guarded.now one × HasNothing one }
-    requires two { IsOf guarded.now two × HasNothing two }
-{
-    join(rt, || count_up(guarded, one), || count_up(guarded, two))
+/// How often two threads counted up from 7, and what the last of two other seats then has.
+fn found<R: Threads + Wait + Sync>(rt: &R, alloc: Global) -> Result<(u32, Option<u32>), Memory> {
+    let (guarded, mut first) = Guarded::new(alloc, 7u32)?;
+    let mut one = guarded.split(&mut first);
+    let mut two = guarded.split(&mut first);
+    let mut second = guarded.split(&mut first);
+    let (by_one, by_other) = join(
+        rt,
+        || count_up(&guarded, &mut one),
+        || count_up(&guarded, &mut two),
+    );
+    let last = one_after_the_other(&guarded, &mut first, &mut second);
+    Ok((by_one.wrapping_add(by_other), last))
 }
 
 #[test]
-fn two_threads_lose_no_change(rt: HostRuntime) -> Result<(), Fail> {
-    let (guarded, mut first) = Guarded::new(rt.alloc(), 0u32)?;
-    let one = guarded.split(&mut first);
-    let two = guarded.split(&mut first);
-    let (by_one, by_other) = by_two(&rt, &guarded, one, two);
-    let value = guarded.try_lock(&mut first);
-    compare(&rt, &value, &Some(by_one.wrapping_add(by_other)));
+fn two_threads_lose_no_change_and_one_of_two_has_the_value(rt: HostRuntime) -> Result<(), Fail> {
+    let (counted, last) = found(&rt, rt.alloc())?;
+    compare(&rt, &last, &Some(counted.wrapping_add(8)));
     Ok(())
 }

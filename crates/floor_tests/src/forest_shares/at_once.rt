@@ -1,12 +1,13 @@
 //! Four shares, worked on by one, two or four threads at once.
-ghost use Rattle.std.specs.Prelude.{◌≡◌, ◌<◌};
+ghost use Rattle.std.specs.Prelude.{◌≡◌, ◌<◌, ℕ, length, slice_index_or};
+ghost use Rattle.std.specs.List.{All};
 ghost use Rattle.floor_tests.specs.Shares.{IsShare};
 
 use crate::forest_shares::shares::{Share, Work, run};
 use job_words::Forest;
 use std::alloc::Global;
 use std::sync::Wait;
-use std::thread::{Threads, join};
+use std::thread::{self, Threads};
 
 /// Four shares of the tags of one forest.
 #[derive(Drop)]
@@ -17,33 +18,27 @@ pub struct Four {
     pub d: Share,
 }
 
-/// The work of two shares, one after the other, or at once by a thread each.
-fn by_two<R: Threads + Wait + Sync>(
+/// The work of all shares, by so many threads.
+fn at_once<R: Threads + Wait + Sync>(
     rt: &R,
     forest: &Forest,
     coroutines: u16,
     alloc: Global,
-    a: Share,
-    b: Share,
+    shares: &mut [Share],
     work: Work,
-    at_once: bool,
-) -> (Share, Share)
+    threads: usize,
+)
     requires size { forest.now.size.coroutines ≡ coroutines }
-    requires a { IsShare forest.now a }
-    requires b { IsShare forest.now b }
-    ensures a { IsShare forest.now result.0 }
-    ensures b { IsShare forest.now result.1 }
+    requires some { 0 < threads }
+    requires shares { All (IsShare forest.now) shares.old }
+    ensures shares { (i : ℕ) (d : Share) → i < length shares.old → IsShare forest.now (slice_index_or shares.new i d) }
 {
-    if at_once {
-        return join(
-            rt,
-            || run(forest, coroutines, alloc, a, work),
-            || run(forest, coroutines, alloc, b, work),
-        );
-    }
-    let a = run(forest, coroutines, alloc, a, work);
-    let b = run(forest, coroutines, alloc, b, work);
-    (a, b)
+    thread::for_each_mut(
+        rt,
+        shares,
+        threads,
+        &|_, share| run(forest, coroutines, alloc, share, work),
+    );
 }
 
 /// The work of four shares, by so many threads, which are one, two or four.
@@ -67,25 +62,10 @@ pub fn work_by<R: Threads + Wait + Sync>(
     ensures d { IsShare forest.now result.d }
 {
     let Four { a, b, c, d } = four;
-    if threads == 1 {
-        let (a, b) = by_two(rt, forest, coroutines, alloc, a, b, work, false);
-        let (c, d) = by_two(rt, forest, coroutines, alloc, c, d, work, false);
-        return Four { a, b, c, d };
-    }
-    let four_threads = threads != 2;
-    let ((a, b), (c, d)) = join(
-        rt,
-        || -> (Share, Share)
-            requires size { forest.now.size.coroutines ≡ coroutines }
-            requires first { IsShare forest.now a }
-            requires second { IsShare forest.now b }
-        { by_two(rt, forest, coroutines, alloc, a, b, work, four_threads) },
-        || -> (Share, Share)
-            requires size { forest.now.size.coroutines ≡ coroutines }
-            requires first { IsShare forest.now c }
-            requires second { IsShare forest.now d }
-        { by_two(rt, forest, coroutines, alloc, c, d, work, four_threads) },
-    );
+    let mut shares = [a, b, c, d];
+    let threads = threads.max(1) as usize;
+    at_once(rt, forest, coroutines, alloc, &mut shares, work, threads);
+    let [a, b, c, d] = shares;
     Four { a, b, c, d }
 }
 

@@ -1,8 +1,7 @@
 //! Calls on a floor of Jobs that look first whether they may be made.
 ghost use Rattle.std.specs.Prelude.{◌≡◌, true, is_some, IfOk};
 ghost use Rattle.job_model.specs.Histories.{replay};
-ghost use Rattle.job_model.specs.Floors.{SameSetting, MayCall};
-ghost use Rattle.job_tree.specs.Rooms.{MayCancelAll};
+ghost use Rattle.job_model.specs.Floors.{SameSetting};
 ghost use Rattle.floor_tests.specs.Shares.{IsReady, row_of};
 
 use crate::no_wakes::NoWakes;
@@ -188,19 +187,26 @@ fn cancel_pass<J: JobFloor>(
     ensures anchor { J.anchor jobs.new ≡ J.anchor jobs.old }
     ensures same { SameSetting (J.view jobs.old) (J.view jobs.new) }
 {
-    let rows = u32::from(jobs.rows());
     let mut book = Notes::new(alloc);
-    book.room(rows)?;
-    jobs.room(rows)?;
-    Ok(Answer::Passed(pass_over(jobs, &mut book, who, row)))
+    match pass_over(jobs, &mut book, who, row) {
+        Ok(count) => Ok(Answer::Passed(count)),
+        Err(memory) => Err(memory),
+    }
 }
 
-fn pass_over<J: JobFloor, B: NoteBook>(jobs: &mut J, book: &mut B, who: Tag, row: Row) -> u32
-    requires can { MayCall who row (J.view jobs.old) }
-    requires room { MayCancelAll (J.view jobs.old) (B.spare book.old) }
+fn pass_over<J: JobFloor, B: NoteBook>(
+    jobs: &mut J,
+    book: &mut B,
+    who: Tag,
+    row: Row,
+) -> Result<u32, Memory>
+    requires ready { IsReady who row (J.view jobs.old) }
     ensures anchor { J.anchor jobs.new ≡ J.anchor jobs.old }
     ensures same { SameSetting (J.view jobs.old) (J.view jobs.new) }
 {
+    let rows = u32::from(jobs.rows());
+    book.room(rows)?;
+    jobs.room(rows)?;
     let mut wakes = NoWakes;
     let mut caller = JobCaller {
         floor: &mut *jobs,
@@ -208,7 +214,7 @@ fn pass_over<J: JobFloor, B: NoteBook>(jobs: &mut J, book: &mut B, who: Tag, row
         wakes: &mut wakes,
         who,
     };
-    caller.cancel_pass(row, Reason::Request)
+    Ok(caller.cancel_pass(row, Reason::Request))
 }
 
 /// Ends a Job, if it may end, and tells its parent.

@@ -139,33 +139,19 @@ fn work_through(
 }
 
 /// The work of a share.
-pub fn run(forest: &Forest, coroutines: u16, alloc: Global, share: Share, work: Work) -> Share
-    requires some { share.from < share.to }
+pub fn run(forest: &Forest, coroutines: u16, alloc: Global, share: &mut Share, work: Work)
     requires size { forest.now.size.coroutines ≡ coroutines }
-    requires owns { OwnsAll forest.now share.pass share.from share.to }
-    ensures from { result.from ≡ share.from }
-    ensures to { result.to ≡ share.to }
-    ensures owns { OwnsAll forest.now result.pass result.from result.to }
+    requires share { IsShare forest.now share.old }
+    ensures share { IsShare forest.now share.new }
 {
-    let Share {
-        mut pass,
-        from,
-        to,
-        ..
-    } = share;
-    let count = match work {
-        Work::CancelRoot => cancel_in(forest, &mut pass, alloc, from, to),
-        Work::EnterScopes => enter_in(forest, coroutines, &mut pass, alloc, from, to),
+    let (from, to) = (share.from, share.to);
+    share.count = match work {
+        Work::CancelRoot => cancel_in(forest, &mut share.pass, alloc, from, to),
+        Work::EnterScopes => enter_in(forest, coroutines, &mut share.pass, alloc, from, to),
         Work::Attach | Work::AttachBelow | Work::EndBody | Work::Finish => {
-            work_through(forest, coroutines, &mut pass, alloc, from, to, work)
+            work_through(forest, coroutines, &mut share.pass, alloc, from, to, work)
         }
     };
-    Share {
-        pass,
-        from,
-        to,
-        count,
-    }
 }
 
 /// Cancels the root and all below it, by the first tag of a share: how many Jobs were cancelled.

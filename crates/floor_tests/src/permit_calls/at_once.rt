@@ -1,12 +1,14 @@
 //! Four coroutines that acquire and release the permits of a semaphore, by one, two or four threads at once.
 
-ghost use Rattle.std.specs.Prelude.{◌≡◌, ◌<◌, ◌+◌, ℕ, IfOk};
-ghost use Rattle.cell_words.specs.Hubs.{IsOf};
+ghost use Rattle.std.specs.Prelude.{◌≡◌, ◌<◌, ℕ, []};
+ghost use Rattle.std.specs.List.{All};
+ghost use Rattle.channel_model.specs.Histories.{acts_of};
+ghost use Rattle.cell_words.specs.Hubs.{IsOf, IsOwn, seen_by};
 ghost use Rattle.cell_calls.specs.HubFloors.{hub_floor};
 ghost use Rattle.permits.specs.Parts.{UsesPermits, MayFill};
-ghost use Rattle.floor_tests.specs.KnownPermits.{FourUse, IsNumber};
+ghost use Rattle.floor_tests.specs.KnownPermits.{IsForAll, IsNumber, IsWorker};
 
-use crate::permit_calls::holds::{Tally, hold_on};
+use crate::permit_calls::holds::{NONE, Tally, hold_on};
 use crate::permit_calls::known_calls::{Call, call_on_pass, fill_on_pass, used};
 use cell_calls::Desk;
 use cell_words::{Hub, Pass};
@@ -16,147 +18,133 @@ use permits::{Permits, TryAcquired};
 use std::alloc::Global;
 use std::sync::Wait;
 use std::sync::atomic::AtomicU64;
-use std::thread::{Threads, join};
+use std::thread::{self, Threads};
 
-/// The passes of four coroutines, with the tags 1 to 4.
+/// A channel that keeps all.
+const KINDS: [(Kind, u32); 1] = [(Kind::Unlimited, 1048576)];
+
+/// A coroutine with a pass of its own, and what its acquires came to.
 #[derive(Drop)]
-struct Four {
-    a: Pass,
-    b: Pass,
-    c: Pass,
-    d: Pass,
+struct Worker {
+    pass: Pass,
+    who: Tag,
+    tally: Tally,
+    /// Memory ran out.
+    full: bool,
 }
 
-/// A hub of one channel that keeps all, the pass of tag 0, and those of the four.
-fn new_four(alloc: Global) -> Result<(Hub, Pass, Four), Memory>
-    ensures of { IfOk result (λ r. IsOf r.0 r.1) }
-    ensures fresh { IfOk result (λ r. (n : ℕ) → IsNumber n → MayFill 0 n 0 (hub_floor r.0 r.1)) }
-    ensures four { IfOk result (λ r. (n : ℕ) → IsNumber n → FourUse n r.0 r.2) }
+/// One that has not called yet.
+fn new_worker(hub: &Hub, pass: Pass, who: Tag) -> Worker
+    requires all { IsForAll hub.now }
+    requires own { IsOwn hub.now pass who }
+    requires none { acts_of who (seen_by pass).seen ≡ [] }
+    ensures worker { (n : ℕ) → IsNumber n → IsWorker n hub.now result }
 {
-    let (hub, mut main) = Hub::new(alloc, &[(Kind::Unlimited, 1048576)])?;
-    let a = hub.split(&mut main, 1);
-    let b = hub.split(&mut main, 2);
-    let c = hub.split(&mut main, 3);
-    let d = hub.split(&mut main, 4);
-    Ok((hub, main, Four { a, b, c, d }))
+    Worker {
+        pass,
+        who,
+        tally: NONE,
+        full: false,
+    }
 }
 
-/// So many acquires of a coroutine with a pass of its own.
+/// So many acquires of a coroutine.
 fn work(
     hub: &Hub,
-    pass: Pass,
     alloc: Global,
     p: &Permits,
-    who: Tag,
     times: u32,
     holding: Option<&AtomicU64>,
-) -> Result<Tally, Memory>
-    requires of { IsOf hub.now pass }
-    requires uses { UsesPermits p.now.c p.now.n who 0 (hub_floor hub.now pass) }
+    worker: &mut Worker,
+)
+    requires first { p.now.c ≡ 0 }
+    requires worker { IsWorker p.now.n hub.now worker.old }
 {
-    let mut pass = pass;
+    let who = worker.who;
     let mut desk = Desk {
         hub,
-        pass: &mut pass,
+        pass: &mut worker.pass,
     };
-    hold_on(&mut desk, alloc, p, who, times, holding)
+    match hold_on(&mut desk, alloc, p, who, times, holding) {
+        Ok(tally) => worker.tally = tally,
+        Err(_) => worker.full = true,
+    }
 }
 
-/// How the work is done.
-#[derive(Clone, Copy)]
-struct Plan {
-    /// How often each acquires.
+/// The same of all, by so many threads.
+fn at_once<R: Threads + Wait + Sync>(
+    rt: &R,
+    hub: &Hub,
+    alloc: Global,
+    p: &Permits,
     times: u32,
-    /// By how many threads: 1, 2 or 4.
-    threads: u32,
-}
-
-/// What both came to.
-fn sum(both: (Result<Tally, Memory>, Result<Tally, Memory>)) -> Result<Tally, Memory> {
-    let (a, b) = both;
-    Ok(a?.and(b?))
-}
-
-/// The same of the coroutines `who` and `who + 1`, one after the other, or at once by a thread each.
-fn by_two<R: Threads + Wait + Sync>(
-    rt: &R,
-    hub: &Hub,
-    a: Pass,
-    b: Pass,
-    alloc: Global,
-    p: &Permits,
-    who: Tag,
-    plan: Plan,
     holding: Option<&AtomicU64>,
-) -> Result<Tally, Memory>
-    requires few { who < 4 }
-    requires of_a { IsOf hub.now a }
-    requires of_b { IsOf hub.now b }
-    requires a { UsesPermits p.now.c p.now.n who 0 (hub_floor hub.now a) }
-    requires b { UsesPermits p.now.c p.now.n (who + 1) 0 (hub_floor hub.now b) }
-{
-    if plan.threads == 4 {
-        return sum(join(
-            rt,
-            || work(hub, a, alloc, p, who, plan.times, holding),
-            || work(hub, b, alloc, p, who + 1, plan.times, holding),
-        ));
-    }
-    let first = work(hub, a, alloc, p, who, plan.times, holding);
-    let second = work(hub, b, alloc, p, who + 1, plan.times, holding);
-    sum((first, second))
-}
-
-/// The same of all four.
-fn by_four<R: Threads + Wait + Sync>(
-    rt: &R,
-    hub: &Hub,
-    four: Four,
-    alloc: Global,
-    p: &Permits,
-    plan: Plan,
-    holding: Option<&AtomicU64>,
-) -> Result<Tally, Memory>
+    workers: &mut [Worker],
+    threads: usize,
+)
     requires first { p.now.c ≡ 0 }
-    requires four { FourUse p.now.n hub.now four }
+    requires some { 0 < threads }
+    requires workers { All (IsWorker p.now.n hub.now) workers.old }
 {
-    let Four { a, b, c, d } = four;
-    if plan.threads == 1 {
-        let first = by_two(rt, hub, a, b, alloc, p, 1, plan, holding);
-        let second = by_two(rt, hub, c, d, alloc, p, 3, plan, holding);
-        return sum((first, second));
-    }
-    sum(join(
+    thread::for_each_mut(
         rt,
-        || -> Result<Tally, Memory>
-            requires of_a { IsOf hub.now a }
-            requires of_b { IsOf hub.now b }
-            requires a { UsesPermits p.now.c p.now.n 1 0 (hub_floor hub.now a) }
-            requires b { UsesPermits p.now.c p.now.n 2 0 (hub_floor hub.now b) }
-        { by_two(rt, hub, a, b, alloc, p, 1, plan, holding) },
-        || -> Result<Tally, Memory>
-            requires of_c { IsOf hub.now c }
-            requires of_d { IsOf hub.now d }
-            requires c { UsesPermits p.now.c p.now.n 3 0 (hub_floor hub.now c) }
-            requires d { UsesPermits p.now.c p.now.n 4 0 (hub_floor hub.now d) }
-        { by_two(rt, hub, c, d, alloc, p, 3, plan, holding) },
-    ))
+        workers,
+        threads,
+        &|_, worker| work(hub, alloc, p, times, holding, worker),
+    );
+}
+
+/// What all came to.
+fn sum(workers: &[Worker]) -> Result<Tally, Memory> {
+    let mut tally = NONE;
+    let mut full = false;
+    for worker in workers {
+        tally = tally.and(worker.tally);
+        full = full | worker.full;
+    }
+    if full { Err(Memory) } else { Ok(tally) }
 }
 
 /// Whether all permits are free, and no more.
-fn are_free(hub: &Hub, pass: &mut Pass, alloc: Global, p: &Permits) -> Result<bool, Memory>
+fn are_free(hub: &Hub, pass: &mut Pass, alloc: Global, p: &Permits) -> bool
     requires of { IsOf hub.now pass.old }
     requires uses { UsesPermits p.now.c p.now.n 0 0 (hub_floor hub.now pass.old) }
 {
     let mut known = used(0);
     let held = Call::TryAcquire(TryAcquired::Held);
     for _ in 0..p.n {
-        if !call_on_pass(hub, pass, alloc, p, 0, &mut known, held)? {
-            return Ok(false);
+        if !call_on_pass(hub, pass, alloc, p, 0, &mut known, held) {
+            return false;
         }
     }
     let empty = Call::TryAcquire(TryAcquired::Empty);
     call_on_pass(hub, pass, alloc, p, 0, &mut known, empty)
+}
+
+/// What the four come to, after tag 0 filled the semaphore, and whether all permits are free then.
+fn tally_on<R: Threads + Wait + Sync>(
+    rt: &R,
+    hub: &Hub,
+    main: &mut Pass,
+    workers: &mut [Worker],
+    alloc: Global,
+    p: &Permits,
+    times: u32,
+    threads: usize,
+    counted: bool,
+) -> Result<(Tally, bool), Memory>
+    requires first { p.now.c ≡ 0 }
+    requires some { 0 < threads }
+    requires of { IsOf hub.now main.old }
+    requires may { MayFill p.now.c p.now.n 0 (hub_floor hub.now main.old) }
+    requires workers { All (IsWorker p.now.n hub.now) workers.old }
+{
+    fill_on_pass(hub, main, alloc, p, 0)?;
+    let number = AtomicU64::new(0);
+    let holding = if counted { Some(&number) } else { None };
+    at_once(rt, hub, alloc, p, times, holding, workers, threads);
+    let tally = sum(workers)?;
+    Ok((tally, are_free(hub, main, alloc, p)))
 }
 
 /// So many acquires by each of four coroutines, by 1, 2 or 4 threads: what they came to, and whether all permits are free in the end.
@@ -172,12 +160,27 @@ pub fn tally_of_four<R: Threads + Wait + Sync + AllocGlobal>(
     requires number { IsNumber p.now.n }
 {
     let alloc = rt.alloc();
-    let (hub, mut main, four) = new_four(alloc)?;
-    fill_on_pass(&hub, &mut main, alloc, p, 0)?;
-    let number = AtomicU64::new(0);
-    let holding = if counted { Some(&number) } else { None };
-    let plan = Plan { times, threads };
-    let tally = by_four(rt, &hub, four, alloc, p, plan, holding)?;
-    let free = are_free(&hub, &mut main, alloc, p)?;
-    Ok((tally, free))
+    let (hub, mut main) = Hub::new(alloc, &KINDS)?;
+    let a = hub.split(&mut main, 1);
+    let b = hub.split(&mut main, 2);
+    let c = hub.split(&mut main, 3);
+    let d = hub.split(&mut main, 4);
+    let mut workers = [
+        new_worker(&hub, a, 1),
+        new_worker(&hub, b, 2),
+        new_worker(&hub, c, 3),
+        new_worker(&hub, d, 4),
+    ];
+    let threads = threads.max(1) as usize;
+    tally_on(
+        rt,
+        &hub,
+        &mut main,
+        &mut workers,
+        alloc,
+        p,
+        times,
+        threads,
+        counted,
+    )
 }

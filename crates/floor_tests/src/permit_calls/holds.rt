@@ -34,7 +34,7 @@ enum Once {
     Wrong,
 }
 
-const NONE: Tally = Tally {
+pub(crate) const NONE: Tally = Tally {
     held: 0,
     given_up: 0,
     wrong: 0,

@@ -73,13 +73,13 @@ fn fill_whole<F: ChannelFloor, B: NoteBook, W: Wakes>(
     }
 }
 
-/// Whether the call answers so, and what is known then; so do the others.
+/// Whether the call answers so, and what is known then; so do the others. Where there is no memory, none does.
 fn acquire_so<F: ChannelFloor, B: NoteBook, W: Wakes>(
     x: &mut Caller<'_, '_, '_, F, B, W>,
     p: &Permits,
     known: &mut Known,
     wanted: Acquired,
-) -> Result<bool, Memory>
+) -> bool
     requires knows { Knows p.now.c p.now.n x.old.who known.old (F.view x.old.floor.now) }
     ensures same { SameCaller F.anchor x.old x.new }
     ensures adds { Adds x.old.who (F.view x.old.floor.now) (F.view x.new.floor.now) }
@@ -89,9 +89,9 @@ fn acquire_so<F: ChannelFloor, B: NoteBook, W: Wakes>(
     match acquire(x, p, &mut known.held) {
         Ok(answer) => {
             known.wait = wait_of(answer);
-            Ok(answer == wanted)
+            answer == wanted
         }
-        Err(memory) => Err(memory),
+        Err(_) => false,
     }
 }
 
@@ -100,7 +100,7 @@ fn try_acquire_so<F: ChannelFloor, B: NoteBook, W: Wakes>(
     p: &Permits,
     known: &mut Known,
     wanted: TryAcquired,
-) -> Result<bool, Memory>
+) -> bool
     requires knows { Knows p.now.c p.now.n x.old.who known.old (F.view x.old.floor.now) }
     ensures same { SameCaller F.anchor x.old x.new }
     ensures adds { Adds x.old.who (F.view x.old.floor.now) (F.view x.new.floor.now) }
@@ -108,8 +108,8 @@ fn try_acquire_so<F: ChannelFloor, B: NoteBook, W: Wakes>(
 {
     known.wait = None;
     match try_acquire(x, p, &mut known.held) {
-        Ok(answer) => Ok(answer == wanted),
-        Err(memory) => Err(memory),
+        Ok(answer) => answer == wanted,
+        Err(_) => false,
     }
 }
 
@@ -118,7 +118,7 @@ fn release_so<F: ChannelFloor, B: NoteBook, W: Wakes>(
     p: &Permits,
     known: &mut Known,
     wanted: Released,
-) -> Result<bool, Memory>
+) -> bool
     requires knows { Knows p.now.c p.now.n x.old.who known.old (F.view x.old.floor.now) }
     ensures same { SameCaller F.anchor x.old x.new }
     ensures adds { Adds x.old.who (F.view x.old.floor.now) (F.view x.new.floor.now) }
@@ -126,8 +126,8 @@ fn release_so<F: ChannelFloor, B: NoteBook, W: Wakes>(
 {
     known.wait = None;
     match release(x, p, &mut known.held) {
-        Ok(answer) => Ok(answer == wanted),
-        Err(memory) => Err(memory),
+        Ok(answer) => answer == wanted,
+        Err(_) => false,
     }
 }
 
@@ -136,19 +136,19 @@ fn cancel_so<F: ChannelFloor, B: NoteBook, W: Wakes>(
     p: &Permits,
     known: &mut Known,
     wanted: GivenBack,
-) -> Result<bool, Memory>
+) -> bool
     requires knows { Knows p.now.c p.now.n x.old.who known.old (F.view x.old.floor.now) }
     ensures same { SameCaller F.anchor x.old x.new }
     ensures adds { Adds x.old.who (F.view x.old.floor.now) (F.view x.new.floor.now) }
     ensures knows { Knows p.now.c p.now.n x.old.who known.new (F.view x.new.floor.now) }
 {
     let Some(w) = known.wait else {
-        return Ok(false);
+        return false;
     };
     known.wait = None;
     match cancel_acquire(x, p, &mut known.held, w) {
-        Ok(answer) => Ok(answer == wanted),
-        Err(memory) => Err(memory),
+        Ok(answer) => answer == wanted,
+        Err(_) => false,
     }
 }
 
@@ -157,19 +157,19 @@ fn take_up_so<F: ChannelFloor, B: NoteBook, W: Wakes>(
     p: &Permits,
     known: &mut Known,
     wanted: Acquired,
-) -> Result<bool, Memory>
+) -> bool
     requires knows { Knows p.now.c p.now.n x.old.who known.old (F.view x.old.floor.now) }
     ensures same { SameCaller F.anchor x.old x.new }
     ensures adds { Adds x.old.who (F.view x.old.floor.now) (F.view x.new.floor.now) }
     ensures knows { Knows p.now.c p.now.n x.old.who known.new (F.view x.new.floor.now) }
 {
     let Some(w) = known.wait else {
-        return Ok(false);
+        return false;
     };
     known.wait = None;
     match take_up_if_resolved(x, p, &mut known.held, w) {
-        Ok(answer) => Ok(answer == Some(wanted)),
-        Err(memory) => Err(memory),
+        Ok(Some(answer)) => answer == wanted,
+        Ok(None) | Err(_) => false,
     }
 }
 
@@ -204,7 +204,7 @@ fn call_so<F: ChannelFloor, B: NoteBook, W: Wakes>(
     p: &Permits,
     known: &mut Known,
     call: Call,
-) -> Result<bool, Memory>
+) -> bool
     requires knows { Knows p.now.c p.now.n x.old.who known.old (F.view x.old.floor.now) }
     ensures same { SameCaller F.anchor x.old x.new }
     ensures adds { Adds x.old.who (F.view x.old.floor.now) (F.view x.new.floor.now) }
@@ -227,7 +227,7 @@ pub(crate) fn call_on<F: ChannelFloor>(
     who: Tag,
     known: &mut Known,
     call: Call,
-) -> Result<bool, Memory>
+) -> bool
     requires knows { Knows p.now.c p.now.n who known.old (F.view floor.old) }
     ensures anchor { F.anchor floor.new ≡ F.anchor floor.old }
     ensures adds { Adds who (F.view floor.old) (F.view floor.new) }
@@ -277,7 +277,7 @@ fn call_on_desk(
     who: Tag,
     known: &mut Known,
     call: Call,
-) -> Result<bool, Memory>
+) -> bool
     requires knows { Knows p.now.c p.now.n who known.old (desk_floor desk.old) }
     ensures anchor { desk_anchor desk.new ≡ desk_anchor desk.old }
     ensures of { IsOf desk.old.hub.now desk.new.pass.now }
@@ -295,7 +295,7 @@ pub(crate) fn call_on_pass(
     who: Tag,
     known: &mut Known,
     call: Call,
-) -> Result<bool, Memory>
+) -> bool
     requires of { IsOf hub.now pass.old }
     requires knows { Knows p.now.c p.now.n who known.old (hub_floor hub.now pass.old) }
     ensures of { IsOf hub.now pass.new }

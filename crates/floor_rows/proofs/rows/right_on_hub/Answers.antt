@@ -1,16 +1,15 @@
-use Rattle.std.proofs.Common.{refl}
+use Rattle.cell_words.specs.declared.pass.Pass.{Pass}
 use Rattle.cell_calls.specs.HubFloors.{hub_floor}
-use Rattle.floor_rows.proofs.NothingKnown.{nothing_there}
+use Rattle.floor_rows.specs.Known.{Knows, nothing}
+use Rattle.floor_rows.proofs.NothingKnown.{knows_nothing}
 use Rattle.floor_rows.proofs.rows.right_on_hub.Goals as goal
 
-pub caller_of-a-requires-clause-knows : goal.caller_of-a-requires-clause-knows
-caller_of-a-requires-clause-knows c = nothing_there (hub_floor c.in_ok-hub.hub c.in_ok-hub.main)
-    (hub_floor c.in_ok-hub.hub c.split-a.result) refl c.in_ok-hub.ensures.knows
-
-pub caller_of-b-requires-clause-knows : goal.caller_of-b-requires-clause-knows
-caller_of-b-requires-clause-knows c = nothing_there (hub_floor c.in_ok-hub.hub c.in_ok-hub.main)
-    (hub_floor c.in_ok-hub.hub c.split-b.result) refl c.in_ok-hub.ensures.knows
-
-pub caller_of-c-requires-clause-knows : goal.caller_of-c-requires-clause-knows
-caller_of-c-requires-clause-knows c = nothing_there (hub_floor c.in_ok-hub.hub c.in_ok-hub.main)
-    (hub_floor c.in_ok-hub.hub c.split-c.result) refl c.in_ok-hub.ensures.knows
+pub right_of_three-requires : goal.right_of_three-requires
+right_of_three-requires c =
+    let knows : (pass : Pass) → Knows nothing (hub_floor c.in_ok-hub.hub pass) = λ pass. knows_nothing c.args.kind c.args.places
+    (hub_floor c.in_ok-hub.hub pass) c.in_ok-hub.ensures.shape c.requires.elements in
+    record {
+      a = record { own = c.split-a.ensures.own; knows = knows c.split-a.result };
+      b = record { own = c.split-b.ensures.own; knows = knows c.split-b.result };
+      c = record { own = c.split-c.ensures.own; knows = knows c.split-c.result };
+    }
