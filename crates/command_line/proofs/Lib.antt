@@ -1,4 +1,4 @@
+pub mod Asked
 pub mod Answering
 pub mod Completing
-pub mod Matched
 pub mod WrittenMeans

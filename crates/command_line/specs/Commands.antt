@@ -2,16 +2,13 @@
 use Rattle.std.specs.Prelude.{◌≤◌, ℕ, ◌==◌, Bool, true, false, ◌&&◌, nat_le, List, [], ◌∷◌, Option, Some, None, option_map, option_and_then, if◌then◌else◌}
 use lib.Chars.{codes}
 use Rattle.std.specs.Str.{bytes_eq}
-use Rattle.clap.specs.Words.{App, Kinds, Row, Rule, fault_of, first_of, matches_of, new_app, new_rule, with_rule}
+use Rattle.clap.specs.Words.{App, Row, Rule, first_of, new_app, with_rule}
+use Rattle.program_input.specs.Words.{matches_by, option}
 use Rattle.script_grammar.specs.Places.{value_at}
 use Rattle.command_line.specs.declared.words.Command.{Command}
 use Rattle.command_line.specs.declared.words.Command.TheVariants.{Run, Check, Sum}
 
 -- ---- the command lines, as clap defines them
-
--- an option of this name, with a value
-abbrev pub option : List ℕ → Rule
-option name = record (new_rule name) { long = Some name }
 
 -- run [--workers N]
 abbrev pub run_line : App
@@ -28,15 +25,6 @@ size_option = record (option (codes "size")) { required = true }
 -- sum --size N [--workers N]
 abbrev pub sum_line : App
 sum_line = with_rule (with_rule (new_app (codes "sum")) size_option) (option (codes "workers"))
-
--- the matches, where nothing is at fault
-abbrev pub unless_faulty : Kinds → List Row → Option (List Row)
-unless_faulty [] rows = Some rows
-unless_faulty (fault ∷ faults) rows = None
-
--- the matches that the words have by the definition of a command line, if they have any
-abbrev pub matches_by : App → List (List ℕ) → Option (List Row)
-matches_by line words = unless_faulty (fault_of line words) (matches_of line words)
 
 -- ---- the values
 

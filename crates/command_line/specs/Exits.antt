@@ -1,17 +1,12 @@
 -- What a process is asked for, and what standard error says of one that ends with a number.
-use Rattle.std.specs.Prelude.{ℕ, ◌==◌, List, map, drop, string_bytes, Option, Some, None, option_and_then, Result, Ok, Err, String, if◌then◌else◌}
+use Rattle.std.specs.Prelude.{ℕ, ◌==◌, List, map, drop, string_bytes, Option, Some, None, option_and_then, Result, String, if◌then◌else◌}
 use Rattle.std.specs.Global.{Global}
-use Rattle.std.specs.Vec.Iter.{into_iter_items}
 use Rattle.std.specs.declared.vec.IntoIter.{IntoIter}
 use Rattle.command_line.specs.declared.exit.Message.{Message}
 use Rattle.command_line.specs.declared.exit.Message.TheVariants.{Usage, ReadFault, WriteFault, NoMemory}
 use Rattle.command_line.specs.declared.words.Command.{Command}
 use Rattle.command_line.specs.Commands.{command_of}
-
--- the arguments that the system gives; where one is no text it gives none
-abbrev pub arguments_given : {E : Type 0} → Result (IntoIter (String Global) Global) E → Option (List (String Global))
-arguments_given (Ok arguments) = Some (into_iter_items arguments)
-arguments_given (Err error) = None
+use Rattle.program_input.specs.Arguments.{arguments_given}
 
 -- the command that the arguments are behind the first, which is the program's name
 abbrev pub asked_by : {E : Type 0} → Result (IntoIter (String Global) Global) E → Option Command

@@ -1,17 +1,17 @@
 //! The whole process, over any source and sink: from the arguments that the system gives to the code that the process ends with.
 
-ghost use Rattle.std.specs.Prelude.{◌≡◌, ◌⊎◌, drop, false, option_map, IfOk};
+ghost use Rattle.std.specs.Prelude.{◌≡◌, ◌⊎◌, drop, false};
 ghost use Rattle.std.specs.Process.{exit_status};
-ghost use Rattle.std.specs.Vec.Iter.{into_iter_items};
 ghost use Rattle.command_line.specs.Commands.{is_asked_to_read};
-ghost use Rattle.command_line.specs.Exits.{arguments_given, asked_by, message_at};
+ghost use Rattle.command_line.specs.Exits.{asked_by, message_at};
 ghost use Rattle.command_line.specs.Statuses.{Completes, Means, number_of, stream};
 ghost use Rattle.command_line.specs.declared.status.Status.{Status as Outcome};
 
 use crate::exit::{Message, exit_code, message_of};
 use crate::status::Status;
 use crate::top::coroutine_main;
-use co_base::{Gate, Memory, Sink, Source};
+use co_base::{Gate, Sink, Source};
+use program_input::texts_of;
 use std::alloc::Global;
 use std::env::Args;
 use std::io;
@@ -71,28 +71,6 @@ fn leaving(number: u8) -> Left
         code: exit_code(number),
         message: message_of(number),
     }
-}
-
-/// The arguments, if each is a text.
-fn texts_of(alloc: Global, arguments: io::Result<Args>) -> Result<Option<Vec<String>>, Memory>
-    ensures { IfOk result (λ texts. option_map (λ all. all.items) texts ≡ arguments_given arguments) }
-{
-    match arguments {
-        Ok(given) => Ok(Some(all_of(alloc, given)?)),
-        Err(error) if error.kind() == io::ErrorKind::OutOfMemory => Err(Memory),
-        Err(_) => Ok(None),
-    }
-}
-
-/// All arguments, in their order.
-fn all_of(alloc: Global, arguments: Args) -> Result<Vec<String>, Memory>
-    ensures { IfOk result (λ all. all.items ≡ into_iter_items arguments) }
-{
-    let mut all = Vec::new(alloc);
-    for text in arguments {
-        all.push(text)?;
-    }
-    Ok(all)
 }
 
 /// All but the first: the first argument is the program's name.

@@ -1,14 +1,15 @@
 //! Which words are accepted, and as which command.
 
-ghost use Rattle.std.specs.Prelude.{◌≡◌, ◌≢◌, ◌≤◌, map, option_map, option_and_then, string_bytes, false, true, Some, IfOk, IfSome};
+ghost use Rattle.std.specs.Prelude.{◌≡◌, ◌≤◌, map, option_map, option_and_then, string_bytes, Some, IfOk, IfSome};
 ghost use lib.Chars.{codes};
-ghost use Rattle.clap.specs.Words.{app_of, first_of, found_of, is_simple_and_free, rows_of, rule_of};
+ghost use Rattle.clap.specs.Words.{app_of, first_of, found_of, rows_of};
+ghost use Rattle.program_input.specs.Words.{matches_by};
 ghost use Rattle.script_grammar.specs.Places.{value_at};
-ghost use Rattle.command_line.specs.Commands.{IsInLimits, alone, check_line, command_of, is_alone, matches_by, option, run_by, run_line, size_of, sum_by, sum_line, within, workers_asked, workers_of};
+ghost use Rattle.command_line.specs.Commands.{IsInLimits, alone, check_line, command_of, is_alone, run_by, run_line, size_of, sum_by, sum_line, within, workers_asked, workers_of};
 
-use clap::error::ErrorKind;
-use clap::{Arg, ArgMatches, Error};
+use clap::ArgMatches;
 use co_base::Memory;
+use program_input::{matches_of, option};
 use script_reader::value_of;
 use std::alloc::Global;
 
@@ -155,42 +156,6 @@ fn sum_line<'a>(alloc: Global) -> Result<clap::Command<'a>, Memory>
         .arg(size)?
         .arg(option(alloc, "workers"))?;
     Ok(line)
-}
-
-/// An option with a value.
-fn option<'a>(alloc: Global, name: &'a str) -> Arg<'a>
-    ensures rule { rule_of result ≡ option name.now }
-    ensures local { result.global ≡ false }
-{
-    Arg::new(alloc, name).long(name)
-}
-
-/// The matches of the words, if they have any.
-fn matches_of<'a>(
-    line: clap::Command<'a>,
-    words: &'a [String],
-) -> Result<Option<ArgMatches<'a>>, Memory>
-    requires { is_simple_and_free (app_of line) ≡ true }
-    ensures { IfOk result (λ found. option_map (λ m. rows_of (found_of m)) found
-        ≡ matches_by (app_of line.entry) (map string_bytes words.now)) }
-{
-    match line.try_get_matches_from(words) {
-        Ok(matches) => Ok(Some(matches)),
-        Err(error) => {
-            if is_memory(error.kind()) {
-                Err(Memory)
-            } else {
-                Ok(None)
-            }
-        }
-    }
-}
-
-/// Whether it is for want of memory that clap has no matches.
-fn is_memory(kind: ErrorKind) -> bool
-    ensures { result ≡ false → kind ≢ ErrorKind.OutOfMemory }
-{
-    matches!(kind, ErrorKind::OutOfMemory)
 }
 
 // ---- the values

@@ -47,7 +47,8 @@ pub fn matches_of<'a>(
 
 /// Whether it is for want of memory that clap has no matches.
 fn is_memory(kind: ErrorKind) -> bool
-    ensures { result ≡ false → kind ≢ ErrorKind.OutOfMemory }
+    ensures yes { result ≡ true → kind ≡ ErrorKind.OutOfMemory }
+    ensures no { result ≡ false → kind ≢ ErrorKind.OutOfMemory }
 {
     matches!(kind, ErrorKind::OutOfMemory)
 }
