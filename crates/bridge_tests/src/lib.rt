@@ -13,6 +13,7 @@
 //! - `permits_wake`: whom a release of a permit wakes
 //! - `parcels`: channels of owned values
 //! - `rings`: rings
+//! - `tasks`: a sink and a stream as two tasks of one thread
 //! - `all_checks`: the tests, which compare what the checks found
 #![tactic(auto)]
 
@@ -38,5 +39,7 @@ mod permits_wake;
 mod rings;
 #[cfg(test)]
 mod streams;
+#[cfg(test)]
+mod tasks;
 #[cfg(test)]
 mod together;

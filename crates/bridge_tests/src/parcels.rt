@@ -3,7 +3,8 @@
 //! - `parcel_calls`: calls whose conditions follow from the calls before
 //! - `parcel_rows`: call by call
 //! - `parcel_streams`: by a sink and a stream, each of which sleeps while it waits
-//! - `parcel_lines`: by two threads that send, one that receives, and one that closes, cancels and drains the channel; and all checks by threads
+//! - `parcel_lines`: by two threads that send, one that receives, and one that closes, cancels and drains the channel; and all checks
+//!   by threads
 
 #[cfg(test)]
 mod parcel_calls;

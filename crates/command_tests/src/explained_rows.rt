@@ -1,24 +1,20 @@
 //! Stuck and failing runs, each a script with its report, and what is to be said of it.
 
-/// A script, a line `report` and the report; and the explanation.
-pub(crate) const ROWS: [(&str, &str); 23] = [
-    // no sender
-    (
-        "channel a rendezvous
+/// Rows, as `explained_tests` reads them.
+pub(crate) const EXPLAINED_ROWS: &str = "\
+~ no sender
+channel a rendezvous
 coroutine main
   receive a
 end
 report
 0 await a 0 a.0 0
 job 0 active
-",
-        "main 0 waits at line 3: receive a
+=
+main 0 waits at line 3: receive a
   could be ended by: nobody
-",
-    ),
-    // circle of two
-    (
-        "channel a rendezvous
+~ circle of two
+channel a rendezvous
 channel b rendezvous
 coroutine worker
   receive b
@@ -35,17 +31,14 @@ report
 1 await b 0 b.0 0
 job 0 active
 job 1 active
-",
-        "main 0 waits at line 9: receive a
+=
+main 0 waits at line 9: receive a
   could be ended by: worker 1
   circle of waits: main 0, worker 1, main 0
 worker 1 waits at line 4: receive b
   could be ended by: main 0
-",
-    ),
-    // no receiver
-    (
-        "# nobody receives
+~ no receiver
+# nobody receives
 channel a rendezvous
 
 coroutine main
@@ -56,15 +49,12 @@ report
 0 offer a 0 5 a.0 0
 job 0 active
 element a 0 5 held
-",
-        "main 0 waits at line 6: send a 5
+=
+main 0 waits at line 6: send a 5
   could be ended by: nobody
 element a 0 5 held: sent by main 0 at line 6: send a 5
-",
-    ),
-    // buffer is full
-    (
-        "channel a buffered 2
+~ buffer is full
+channel a buffered 2
 coroutine main
   send a 1
   send a 2
@@ -78,17 +68,14 @@ job 0 active
 element a 0 1 held
 element a 1 2 held
 element a 2 3 held
-",
-        "main 0 waits at line 5: send a 3
+=
+main 0 waits at line 5: send a 3
   could be ended by: nobody
 element a 0 1 held: sent by main 0 at line 3: send a 1
 element a 1 2 held: sent by main 0 at line 4: send a 2
 element a 2 3 held: sent by main 0 at line 5: send a 3
-",
-    ),
-    // join of a child that waits
-    (
-        "channel never unlimited
+~ join of a child that waits
+channel never unlimited
 coroutine child
   yield
   receive never
@@ -103,17 +90,14 @@ report
 1 await never 0 never.0 0
 job 0 active
 job 1 active
-",
-        "main 0 waits at line 8: join c
+=
+main 0 waits at line 8: join c
   for the end of child 1
   could be ended by: child 1
 child 1 waits at line 4: receive never
   could be ended by: nobody
-",
-    ),
-    // lazy and not started
-    (
-        "coroutine later
+~ lazy and not started
+coroutine later
   yield
 end
 coroutine main
@@ -125,14 +109,11 @@ report
 0 endbody 0 4
 job 0 completing
 job 1 new
-",
-        "job 0 completing: main 0 has ended its lines, and waits for the end of later 1
+=
+job 0 completing: main 0 has ended its lines, and waits for the end of later 1
 job 1 new: later 1 was not started
-",
-    ),
-    // forgotten close
-    (
-        "channel a rendezvous
+~ forgotten close
+channel a rendezvous
 coroutine producer
   repeat 3
     send a 1
@@ -162,14 +143,11 @@ report
 1 gone 1
 job 0 active
 job 1 completed 0
-",
-        "main 0 waits at line 9: each a
+=
+main 0 waits at line 9: each a
   could be ended by: nobody
-",
-    ),
-    // workers without end
-    (
-        "channel jobs unlimited
+~ workers without end
+channel jobs unlimited
 coroutine worker
   each jobs
     yield
@@ -196,19 +174,16 @@ job 0 completing
 job 1 active
 job 2 active
 job 3 active
-",
-        "worker 1 waits at line 3: each jobs
+=
+worker 1 waits at line 3: each jobs
   could be ended by: nobody
 worker 2 waits at line 3: each jobs
   could be ended by: nobody
 worker 3 waits at line 3: each jobs
   could be ended by: nobody
 job 0 completing: main 0 has ended its lines, and waits for the end of worker 1, worker 2, worker 3
-",
-    ),
-    // select of two
-    (
-        "channel a rendezvous
+~ select of two
+channel a rendezvous
 channel b rendezvous
 coroutine other
   receive b
@@ -234,16 +209,13 @@ report
 1 await b 2 b.2 0
 job 0 active
 job 1 active
-",
-        "main 0 waits at line 10: select
+=
+main 0 waits at line 10: select
   could be ended by: nobody
 other 1 waits at line 5: receive b
   could be ended by: nobody
-",
-    ),
-    // failure cancels all
-    (
-        "channel never rendezvous
+~ failure cancels all
+channel never rendezvous
 coroutine sibling
   receive never
 end
@@ -281,16 +253,13 @@ report
 job 0 failed 2
 job 1 cancelled
 job 2 failed 2
-",
-        "all coroutines ended, and every element was received
+=
+all coroutines ended, and every element was received
 job 0 failed 2: main 0 failed by the failure of bad 2
 job 2 failed 2: bad 2 failed at line 7: fail 7
   it cancelled: main 0, sibling 1
-",
-    ),
-    // failure in a scope
-    (
-        "channel never rendezvous
+~ failure in a scope
+channel never rendezvous
 coroutine bad
   fail 9
 end
@@ -339,17 +308,14 @@ job 0 failed 2
 job 1 cancelled
 job 2 failed 2
 job 3 failed 2
-",
-        "all coroutines ended, and every element was received
+=
+all coroutines ended, and every element was received
 job 0 failed 2: main 0 failed by the failure of bad 2
 job 2 failed 2: bad 2 failed at line 3: fail 9
   it cancelled: job 3, good 1
 job 3 failed 2: job 3 failed by the failure of bad 2
-",
-    ),
-    // lost
-    (
-        "channel a rendezvous
+~ lost
+channel a rendezvous
 coroutine receiver
   receive a
 end
@@ -384,14 +350,11 @@ job 0 completed 0
 job 1 cancelled
 job 2 completed 0
 element a 0 5 undelivered
-",
-        "element a 0 5 undelivered: sent by sender 2 at line 6: send a 5
+=
+element a 0 5 undelivered: sent by sender 2 at line 6: send a 5
   handed to receiver 1 at line 3: receive a
-",
-    ),
-    // conflated
-    (
-        "channel a conflated
+~ conflated
+channel a conflated
 coroutine main
   send a 1
   send a 2
@@ -411,16 +374,13 @@ report
 job 0 completed 0
 element a 0 1 dropped
 element a 1 2 dropped
-",
-        "element a 0 1 dropped: sent by main 0 at line 3: send a 1
+=
+element a 0 1 dropped: sent by main 0 at line 3: send a 1
   discarded by main 0 at line 4: send a 2
 element a 1 2 dropped: sent by main 0 at line 4: send a 2
   discarded by main 0 at line 5: send a 3
-",
-    ),
-    // spurned
-    (
-        "script 2
+~ spurned
+script 2
 channel a droplatest 1
 coroutine main
   send a 1
@@ -436,15 +396,12 @@ report
 job 0 completed 0
 element a 0 1 held
 element a 1 2 spurned
-",
-        "element a 0 1 held: sent by main 0 at line 4: send a 1
+=
+element a 0 1 held: sent by main 0 at line 4: send a 1
 element a 1 2 spurned: sent by main 0 at line 5: send a 2
   discarded by main 0 at line 5: send a 2
-",
-    ),
-    // third turn
-    (
-        "channel a rendezvous
+~ third turn
+channel a rendezvous
 coroutine giver
   repeat 2
     send a 8
@@ -472,14 +429,11 @@ report
 1 gone 1
 job 0 active
 job 1 completed 0
-",
-        "main 0 waits at line 10: receive a
+=
+main 0 waits at line 10: receive a
   could be ended by: nobody
-",
-    ),
-    // cancelled channel
-    (
-        "channel a buffered 2
+~ cancelled channel
+channel a buffered 2
 coroutine main
   send a 1
   send a 2
@@ -498,16 +452,13 @@ report
 job 0 completed 0
 element a 0 1 undelivered
 element a 1 2 undelivered
-",
-        "element a 0 1 undelivered: sent by main 0 at line 3: send a 1
+=
+element a 0 1 undelivered: sent by main 0 at line 3: send a 1
   discarded by main 0 at line 5: cancelchannel a
 element a 1 2 undelivered: sent by main 0 at line 4: send a 2
   discarded by main 0 at line 5: cancelchannel a
-",
-    ),
-    // scope waits for its child
-    (
-        "channel a rendezvous
+~ scope waits for its child
+channel a rendezvous
 coroutine child
   send a 1
 end
@@ -527,19 +478,16 @@ job 0 active
 job 1 active
 job 2 completing
 element a 0 1 held
-",
-        "main 0 waits at line 8: end
+=
+main 0 waits at line 8: end
   for the end of job 2, of the scope of line 6
   could be ended by: child 1
   circle of waits: main 0, child 1, main 0
 child 1 waits at line 3: send a 1
   could be ended by: main 0
 element a 0 1 held: sent by child 1 at line 3: send a 1
-",
-    ),
-    // circle of three
-    (
-        "channel a rendezvous
+~ circle of three
+channel a rendezvous
 channel b rendezvous
 channel c rendezvous
 coroutine one
@@ -565,19 +513,16 @@ report
 job 0 active
 job 1 active
 job 2 active
-",
-        "main 0 waits at line 15: receive c
+=
+main 0 waits at line 15: receive c
   could be ended by: two 2
   circle of waits: main 0, two 2, one 1, main 0
 one 1 waits at line 5: receive a
   could be ended by: main 0
 two 2 waits at line 9: receive b
   could be ended by: one 1
-",
-    ),
-    // results read after the join
-    (
-        "channel results rendezvous
+~ results read after the join
+channel results rendezvous
 coroutine worker
   send results 3
 end
@@ -593,19 +538,16 @@ report
 job 0 active
 job 1 active
 element results 0 3 held
-",
-        "main 0 waits at line 7: join w
+=
+main 0 waits at line 7: join w
   for the end of worker 1
   could be ended by: worker 1
   circle of waits: main 0, worker 1, main 0
 worker 1 waits at line 3: send results 3
   could be ended by: main 0
 element results 0 3 held: sent by worker 1 at line 3: send results 3
-",
-    ),
-    // nothing left
-    (
-        "channel a rendezvous
+~ nothing left
+channel a rendezvous
 coroutine giver
   send a 1
 end
@@ -627,13 +569,10 @@ report
 1 close @0 0
 job 0 completed 0
 job 1 completed 0
-",
-        "all coroutines ended, and every element was received
-",
-    ),
-    // spawned
-    (
-        "channel a unlimited
+=
+all coroutines ended, and every element was received
+~ spawned
+channel a unlimited
 coroutine reader
   receive a
   receive a
@@ -664,15 +603,12 @@ report
 job 0 completing
 job 1 completed 0
 job 2 active
-",
-        "reader 2 waits at line 4: receive a
+=
+reader 2 waits at line 4: receive a
   could be ended by: nobody
 job 0 completing: main 0 has ended its lines, and waits for the end of reader 2
-",
-    ),
-    // places are spent
-    (
-        "channel a buffered 3 places 2
+~ places are spent
+channel a buffered 3 places 2
 coroutine main
   send a 1
   send a 2
@@ -689,16 +625,13 @@ report
 job 0 failed 0
 element a 0 1 held
 element a 1 2 held
-",
-        "element a 0 1 held: sent by main 0 at line 3: send a 1
+=
+element a 0 1 held: sent by main 0 at line 3: send a 1
 element a 1 2 held: sent by main 0 at line 4: send a 2
 job 0 failed 0: main 0 failed at line 5: send a 3
   it cancelled: nobody
-",
-    ),
-    // failure awaited
-    (
-        "coroutine bad
+~ failure awaited
+coroutine bad
   fail 3
 end
 coroutine main
@@ -734,12 +667,10 @@ report
 job 0 failed 1
 job 1 failed 1
 job 2 failed 1
-",
-        "all coroutines ended, and every element was received
+=
+all coroutines ended, and every element was received
 job 0 failed 1: main 0 failed by the failure of bad 1
 job 1 failed 1: bad 1 failed at line 2: fail 3
   it cancelled: nobody
 job 2 failed 1: job 2 failed by the failure of bad 1
-",
-    ),
-];
+";

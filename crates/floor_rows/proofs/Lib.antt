@@ -3,4 +3,5 @@ mod KnownLater
 mod LatestCalls
 mod NothingKnown
 mod SelectsOwnWaits
+mod TwoCounters
 mod WaitsBegun

@@ -270,7 +270,8 @@ fn at_once<R: Threads + Wait + Sync>(rt: &R, hub: &Hub, callers: &mut [Caller])
     requires own { All (λ c. IsOwn hub.now c.pass c.who) callers.old }
     requires channel { 0 < length (shape_of hub.now) }
     requires kind { is_signal (kind_at (shape_of hub.now) 0) ≡ false }
-    ensures own { (i : ℕ) (d : Caller) → i < length callers.old → IsOwn hub.now (slice_index_or callers.new i d).pass (slice_index_or callers.new i d).who }
+    ensures own { (i : ℕ) (d : Caller) → i < length callers.old
+        → IsOwn hub.now (slice_index_or callers.new i d).pass (slice_index_or callers.new i d).who }
 {
     thread::for_each_mut(rt, callers, 4, &|_, caller| work(hub, caller));
 }

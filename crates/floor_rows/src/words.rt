@@ -4,6 +4,7 @@
 //! - `gate_rows`: a gate, call by call.
 //! - `guarded_rows`: a value that one at a time has, call by call, and by two threads.
 //! - `latest_at_once`: a channel that does not keep its latest, by two threads.
+//! - `two_counters`: two counters on one table, each with a history of its own.
 
 #[cfg(test)]
 mod counted_at_once;
@@ -15,3 +16,5 @@ mod gate_rows;
 mod guarded_rows;
 #[cfg(test)]
 mod latest_at_once;
+#[cfg(test)]
+mod two_counters;

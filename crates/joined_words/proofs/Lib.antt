@@ -3,4 +3,3 @@ pub mod PartsOfLists
 pub mod PartsOfSteps
 pub mod PartsOfTables
 pub mod PointsOfAnOrder
-mod TwoCounters

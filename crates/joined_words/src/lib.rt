@@ -37,8 +37,6 @@ mod laws;
 mod part;
 mod seats;
 mod stepping;
-#[cfg(test)]
-mod tests;
 
 pub use joint::{
     FirstDraws, FirstPart, JointHistory, JointSeat, JointTable, QUIET_WORDS, SecondDraws,

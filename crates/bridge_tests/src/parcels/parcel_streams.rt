@@ -3,19 +3,17 @@ ghost use Rattle.std.specs.Prelude.{◌<◌};
 ghost use Rattle.parcel_channel.specs.Hubs.{IsOf};
 
 use crate::parcels::parcel_calls::{Three, new_channel};
+use crate::tasks;
 use channel_model::Kind;
-use futures::executor::block_on;
-use futures::future::join as join_tasks;
-use futures::stream::iter;
+use futures::Stream;
 use futures::task::Poll;
 use futures::test::MockTask;
-use futures::{SinkExt, Stream, StreamExt};
 use parcel_channel::{ParcelHub, ParcelPass, ParcelSent};
 use ring_bridge::Bells;
 use std::alloc::AllocGlobal;
 use std::random::RandomSource;
 use std::sync::Wait;
-use waiting::{ParcelSink, ParcelStream, ReceiveFault, SendFault, send};
+use waiting::{ParcelSink, ParcelStream, ReceiveFault, send};
 
 /// Whether these are a hundred numbers from 0 on.
 fn are_numbers(items: &[Result<u32, ReceiveFault>]) -> bool {
@@ -27,14 +25,6 @@ fn are_numbers(items: &[Result<u32, ReceiveFault>]) -> bool {
         due = due.wrapping_add(1);
     }
     due == 100
-}
-
-/// Whether memory was there for them, and they are these.
-fn are_all<E: Drop>(items: Result<Vec<Result<u32, ReceiveFault>>, E>) -> bool {
-    match items {
-        Ok(items) => are_numbers(items.as_slice()),
-        Err(_) => false,
-    }
 }
 
 /// A sink and a stream take turns: a hundred numbers go over a channel that keeps one.
@@ -49,14 +39,11 @@ fn take_turns<R: Wait + RandomSource + AllocGlobal>(
     requires two { IsOf hub.now two }
     requires low { (one.tag < 63) × (two.tag < 63) }
 {
-    let numbers = iter(0..100u32).map(|n| -> Result<u32, SendFault<u32>> { Ok(n) });
-    let sends = ParcelSink::new(hub, bells, one).send_all(numbers);
-    let receives = ParcelStream::new(hub, bells, two)
-        .take(100)
-        .collect(rt.alloc());
-    match block_on(rt, join_tasks(sends, receives)) {
-        Ok((sent, received)) => sent.is_ok() & are_all(received),
-        Err(_) => false,
+    let sink = ParcelSink::new(hub, bells, one);
+    let stream = ParcelStream::new(hub, bells, two);
+    match tasks::take_turns(rt, sink, stream) {
+        Some((sent, items)) => sent & are_numbers(items.as_slice()),
+        None => false,
     }
 }
 

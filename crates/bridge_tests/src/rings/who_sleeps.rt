@@ -2,13 +2,11 @@
 ghost use Rattle.bridge_tests.specs.RingPasses.{AreThree, IsOther};
 
 use crate::rings::ring_calls::Three;
-use futures::executor::block_on;
-use futures::future::join as join_tasks;
-use futures::stream::iter;
+use crate::tasks;
+use futures::Stream;
 use futures::task::Poll;
 use futures::test::MockTask;
-use futures::{SinkExt, Stream, StreamExt};
-use ring_bridge::{Bells, RingSink, RingSinkFault, RingStream, receive, send};
+use ring_bridge::{Bells, RingSink, RingStream, receive, send};
 use ring_channel::{Ring, RingPass};
 use std::alloc::AllocGlobal;
 use std::random::RandomSource;
@@ -26,14 +24,6 @@ fn are_numbers(items: &[u32]) -> bool {
     due == 100
 }
 
-/// Whether memory was there for them, and they are these.
-fn are_all<E: Drop>(items: Result<Vec<u32>, E>) -> bool {
-    match items {
-        Ok(items) => are_numbers(items.as_slice()),
-        Err(_) => false,
-    }
-}
-
 /// A sink and a stream take turns: a hundred numbers go through two slots.
 pub(crate) fn take_turns<R: Wait + RandomSource + AllocGlobal>(
     rt: &R,
@@ -44,14 +34,11 @@ pub(crate) fn take_turns<R: Wait + RandomSource + AllocGlobal>(
     requires three { AreThree ring.now three.main three.one three.two }
 {
     let Three { main: _, one, two } = three;
-    let numbers = iter(0..100u32).map(|n| -> Result<u32, RingSinkFault<u32>> { Ok(n) });
-    let sends = RingSink::new(ring, bells, one, 1).send_all(numbers);
-    let receives = RingStream::new(ring, bells, two, 2)
-        .take(100)
-        .collect(rt.alloc());
-    match block_on(rt, join_tasks(sends, receives)) {
-        Ok((sent, received)) => sent.is_ok() & are_all(received),
-        Err(_) => false,
+    let sink = RingSink::new(ring, bells, one, 1);
+    let stream = RingStream::new(ring, bells, two, 2);
+    match tasks::take_turns(rt, sink, stream) {
+        Some((sent, items)) => sent & are_numbers(items.as_slice()),
+        None => false,
     }
 }
 

@@ -194,8 +194,14 @@ fn by_two<R: Threads + Wait + Sync>(
 {
     join(
         rt,
-        || work(counted, a, first),
-        || work(counted, b, first.wrapping_add(EACH)),
+        || -> Share
+            requires { Waited counted.now a.pass a.sends.items a.receives.items }
+            ensures { Waited counted.entry.now result.pass result.sends.items result.receives.items }
+        { work(counted, a, first) },
+        || -> Share
+            requires { Waited counted.now b.pass b.sends.items b.receives.items }
+            ensures { Waited counted.entry.now result.pass result.sends.items result.receives.items }
+        { work(counted, b, first.wrapping_add(EACH)) },
     )
 }
 
@@ -219,10 +225,14 @@ fn by_four<R: Threads + Wait + Sync>(
         || -> (Share, Share)
             requires a { Waited counted.now a.pass a.sends.items a.receives.items }
             requires b { Waited counted.now b.pass b.sends.items b.receives.items }
+            ensures a { Waited counted.entry.now result.0.pass result.0.sends.items result.0.receives.items }
+            ensures b { Waited counted.entry.now result.1.pass result.1.sends.items result.1.receives.items }
         { by_two(rt, counted, a, b, 0) },
         || -> (Share, Share)
             requires c { Waited counted.now c.pass c.sends.items c.receives.items }
             requires d { Waited counted.now d.pass d.sends.items d.receives.items }
+            ensures c { Waited counted.entry.now result.0.pass result.0.sends.items result.0.receives.items }
+            ensures d { Waited counted.entry.now result.1.pass result.1.sends.items result.1.receives.items }
         { by_two(rt, counted, c, d, 2 * EACH) },
     );
     count_share(counted, a, counts)

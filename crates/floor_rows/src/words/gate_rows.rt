@@ -112,8 +112,8 @@ fn take_asleep<R: Wait>(rt: &R, gate: &Gate, pass: &mut GatePass) -> u32
     pass.held()
 }
 
-/// Which calls answer so, and, if all do: whether one that keeps a permit a while gives it back to a second, which sleeps until then, and how
-/// many the second holds.
+/// Which calls answer so, and, if all do: whether one that keeps a permit a while gives it back to a second, which sleeps until then,
+/// and how many the second holds.
 fn found<R: Threads + Wait + Sync + Clock>(
     rt: &R,
     alloc: Global,

@@ -1,7 +1,7 @@
 use Rattle.std.proofs.Common.{◌∙◌}
 use Rattle.joined_words.specs.Parts.{view_in}
-use Rattle.joined_words.proofs.TwoCounters.{may_count, idle_after}
-use Rattle.joined_words.proofs.tests.count.Goals as goal
+use Rattle.floor_rows.proofs.TwoCounters.{may_count, idle_after}
+use Rattle.floor_rows.proofs.words.two_counters.count.Goals as goal
 
 pub exchange_in-requires-clause-may : goal.exchange_in-requires-clause-may
 exchange_in-requires-clause-may g c = may_count (view_in g.P.HistoryPart.part c.args.seat.now.me.0) c.args.n

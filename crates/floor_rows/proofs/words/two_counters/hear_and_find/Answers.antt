@@ -1,8 +1,8 @@
 use Rattle.std.proofs.Common.{◌≡◌, ◌++◌, length, arith, refl, ◌∙◌}
 use Rattle.joined_words.specs.Parts.{entries_in}
 use Rattle.joined_words.specs.Joints.{first_of}
-use Rattle.joined_words.proofs.TwoCounters.{prefix_length, key_met}
-use Rattle.joined_words.proofs.tests.hear_and_find.Goals as goal
+use Rattle.floor_rows.proofs.TwoCounters.{prefix_length, key_met}
+use Rattle.floor_rows.proofs.words.two_counters.hear_and_find.Goals as goal
 
 pub load_in-requires-clause-seat : goal.load_in-requires-clause-seat
 load_in-requires-clause-seat c = (

@@ -4,11 +4,11 @@ ghost use Rattle.worded.specs.Views.{IsSeatOf, has_tag};
 ghost use Rattle.joined_words.specs.Parts.{IsEntryAnd, entries_in, tags_in};
 ghost use Rattle.joined_words.specs.Joints.{first_of};
 
-use crate::{
+use either::Either;
+use joined_words::{
     FirstPart, HistoryPart, JointHistory, JointSeat, QUIET_WORDS, SecondPart, SharedJoint,
     exchange_in, hear, load_in, new_joint, split_in,
 };
-use either::Either;
 use std::alloc::Global;
 use std::test::Fail;
 use worded::HistoryRule;

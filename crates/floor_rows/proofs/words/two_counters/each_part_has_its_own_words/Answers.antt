@@ -1,8 +1,8 @@
 use Rattle.std.proofs.Common.{◌+◌, sym, ap, ◌∙◌}
 use Rattle.worded.specs.Views.{has_tag}
 use Rattle.joined_words.specs.Parts.{tags_in}
-use Rattle.joined_words.proofs.TwoCounters.{ten_zeros}
-use Rattle.joined_words.proofs.tests.each_part_has_its_own_words.Goals as goal
+use Rattle.floor_rows.proofs.TwoCounters.{ten_zeros}
+use Rattle.floor_rows.proofs.words.two_counters.each_part_has_its_own_words.Goals as goal
 
 pub new_joint-requires-clause-quiet : goal.new_joint-requires-clause-quiet
 new_joint-requires-clause-quiet g c i lt = ten_zeros i
