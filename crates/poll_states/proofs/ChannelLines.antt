@@ -16,9 +16,11 @@ use Rattle.channel_calls.specs.declared.caller.SendAnswer.{SendAnswer}
 use Rattle.channel_calls.specs.declared.caller.SendAnswer.TheVariants as send
 use Rattle.channel_calls.specs.declared.caller.TrySendAnswer.{TrySendAnswer}
 use Rattle.channel_calls.specs.declared.caller.TrySendAnswer.TheVariants as try_send
+use Rattle.channel_calls.specs.declared.caller.ReceiveAnswer.{ReceiveAnswer}
+use Rattle.channel_calls.specs.declared.caller.ReceiveAnswer.TheVariants as receive
 use Rattle.channel_calls.specs.declared.caller.TryReceiveAnswer.{TryReceiveAnswer}
 use Rattle.channel_calls.specs.declared.caller.TryReceiveAnswer.TheVariants as try_receive
-use Rattle.channel_calls.specs.Calls.{IsLeftWaiting, SentAnswer, TrySentAnswer, TryReceivedAnswer, ClosedAnswer, CancelledChannelAnswer, ToldPart, GoesSomehow, GoesAtOnceSomehow}
+use Rattle.channel_calls.specs.Calls.{IsLeftWaiting, SentAnswer, TrySentAnswer, ReceivedAnswer, TryReceivedAnswer, ClosedAnswer, CancelledChannelAnswer, ToldPart, GoesSomehow, GoesAtOnceSomehow}
 use Rattle.channel_calls.proofs.OwnOffers.{left_seen}
 use Rattle.channel_calls.proofs.Untold.{part_of}
 use Rattle.channel_calls.proofs.AnswersGo.{sent_goes, unsent_goes, closes_goes, cancels_goes}
@@ -40,7 +42,7 @@ use Rattle.script_meaning.specs.Polls.{HasStood}
 use Rattle.poll_states.specs.declared.answers.Answer.{Answer}
 use Rattle.poll_states.specs.declared.answers.Answer.TheVariants as came
 use Rattle.poll_states.specs.Frames.{Frame, config_of, items_of, channels_at, at_poll}
-use Rattle.poll_states.specs.Calls.{does_call, channel_in, element_of, answer_of_send, answer_of_try_send, answer_of_try_receive, meant, is_done, is_closed, IsSendEnd, CallTellsSomehow, LeftWaiting, Made, after_call}
+use Rattle.poll_states.specs.Calls.{does_call, channel_in, element_of, answer_of_send, answer_of_try_send, answer_of_receive, answer_of_try_receive, meant, is_done, is_closed, IsSendEnd, CallTellsSomehow, LeftWaiting, Made, after_call}
 use Rattle.poll_states.specs.Steps.{Stepped}
 use Rattle.script_meaning.specs.Laws.{wait_of}
 use Rattle.poll_states.proofs.Mild.{AllMild, plain_mild, try_mild, closes_mild, cancels_channel_mild}
@@ -165,6 +167,30 @@ tried_to_receive_made n v old new answer a e h = subst (Made v (line.TryReceive 
       left = m;
       stood = tt;
     }
+
+-- what a receive told
+pub received_made : (n v : ℕ) (old new : SeenOnChannels) (answer : ReceiveAnswer) (a : Answer) → a ≡ answer_of_receive answer
+    → ReceivedAnswer n old new (Ok answer) → Made v (line.Receive n) old new a
+received_made n v old new answer a e h = subst (Made v (line.Receive n) old new) (sym e) (by_answer answer h)
+  where
+    by_answer : (answer : ReceiveAnswer) → ReceivedAnswer n old new (Ok answer)
+        → Made v (line.Receive n) old new (answer_of_receive answer)
+    by_answer (receive.Value x) m = record { told = m.told; goes = (refl, m.goes); left = m.left; stood = tt }
+    by_answer (receive.Waits w) m = record {
+      told = m.0.told;
+      goes = (refl, m.0.goes);
+      left = m.0.left;
+      stood = left_waiting w old new m.1;
+    }
+    by_answer (receive.Closed x) m = record { told = m.told; goes = (refl, m.goes); left = m.left; stood = tt }
+    by_answer receive.Spent m = record { told = m.told; goes = (refl, m.goes); left = m.left; stood = tt }
+
+-- an each receives so too
+pub each_made : (n v : ℕ) (old new : SeenOnChannels) (answer : ReceiveAnswer) (a : Answer) → a ≡ answer_of_receive answer
+    → ReceivedAnswer n old new (Ok answer) → Made v (line.Each n) old new a
+each_made n v old new answer a e h =
+    let m = received_made n v old new answer a e h in
+    record { told = m.told; goes = m.goes; left = m.left; stood = m.stood }
 
 pub closed_made : (n v : ℕ) (old new : SeenOnChannels) (first : Bool) → ClosedAnswer n 0 old new (Ok first)
     → Made v (line.Close n) old new came.Done

@@ -1,5 +1,5 @@
 -- How the wait of a coroutine ends.
-use Rattle.std.specs.Prelude.{◌≡◌, ℕ, Bool, true, false, List, [], ◌∷◌, ◌++◌, Option, Some, None, is_some, refl}
+use Rattle.std.specs.Prelude.{◌≡◌, ℕ, Bool, true, false, List, [], ◌∷◌, ◌++◌, Option, Some, None, is_some, refl, Ok}
 use Rattle.std.proofs.Common.{sym, ap, ◌∙◌, subst, append_assoc}
 use Rattle.co_base.specs.declared.names.WaitId.{WaitId}
 use Rattle.channel_model.specs.declared.acts.Act.TheVariants.{Settle}
@@ -27,7 +27,7 @@ use Rattle.call_meaning.specs.Seen.{SeenOnChannels, SeenOnBoth, state_in}
 use Rattle.call_meaning.specs.Calls.{ToldOnChannels, ToldOnBoth, rows_in}
 use Rattle.call_meaning.proofs.JobTellings.{told_fact, told_knew, both_jobs, both_channels, both_then}
 use Rattle.call_meaning.proofs.HeardCalls.{both_nothing}
-use Rattle.channel_calls.specs.Calls.{IsUntouched, ToldPart, Tells, TakesBack, TakesBackSomehow, end_told}
+use Rattle.channel_calls.specs.Calls.{DispatchedAnswer, IsUntouched, ToldPart, Tells, TakesBack, TakesBackSomehow, end_told}
 use Rattle.channel_calls.proofs.AnswersGo.{takes_back_goes}
 use Rattle.channel_calls.proofs.Untold.{told_seen, part_none, part_of}
 use Rattle.script_grammar.specs.Blocks.{opens_lines}
@@ -212,6 +212,29 @@ ends_open : (p : Program) (k : ℕ) (x : Config) (i : Instruction) (outcome : Se
 ends_open p k x i _ o (WaitEnds.answered outcome a r after) =
     after_stage is_over (λ w. refl) (λ failure. refl) refl refl p k x i a _ o after
 ends_open p k x i _ o WaitEnds.taken_back = refl
+
+-- a wait that was dispatched, and whose coroutine then goes on, has ended
+pub wait_done : (p : Program) (w : WaitId) (c c' : ChannelFloor) (f m g : Frame) (k : ℕ) (i' : List Item) (line : Instruction)
+    (outcome : Settled) → m.tag ≡ f.tag → config_of m ≡ config_of f → items_of m ≡ items_of f
+    → DispatchedAnswer w false (channels_at c m) (record { who = k; floor = c'; items = i' }) (Ok outcome)
+    → LineIs p f.tag (config_of f) line → g.tag ≡ m.tag → config_of g ≡ after_wait p m.tag (config_of m) line outcome → items_of g ≡ i'
+    → EndedWait p w (channels_at c f) (channels_at c' g) f g
+wait_done p w c c' f m g k i' line outcome tag kept same did at t config items = record {
+  outcome = outcome;
+  ends = did.1;
+  line = line;
+  line_is = at;
+  config = config ∙ ap (λ n. after_wait p n (config_of m) line outcome) tag ∙ ap (λ x. after_wait p f.tag x line outcome) kept;
+  noted = told_on_channels_at g.tag (items_of g) from (t ∙ tag) items;
+}
+  where
+    after : SeenOnChannels
+    after = record { who = k; floor = c'; items = i' }
+
+    from : ToldOnChannels (channels_at c f) after (end_told w false outcome)
+    from = subst (λ (n : ℕ). ToldOnChannels (record { who = n; floor = c; items = items_of f }) after (end_told w false outcome)) tag
+        (subst (λ (l : List Item). ToldOnChannels (record { who = m.tag; floor = c; items = l }) after (end_told w false outcome)) same
+        did.0)
 
 -- the wait ended as its line says, and the body did not end by it
 pub wait_ended : (p : Program) {c d' c' : ChannelFloor} {a b b' : Floor} {f m g : Frame} {w : WaitId} → IsProgram p

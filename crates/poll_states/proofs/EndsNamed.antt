@@ -69,19 +69,33 @@ awaits_named p c j f ok l h e =
           h.on.runs (ap is_in_lines e) at.1 refl;
     }
 
+-- the line at which it waits is read so
+pub awaited_is : (p : Program) (f : Frame) (h : AwaitsNamed p f) (code : List Instruction) (d : Instruction) → code ≡ code_of p f.tag
+    → get_or code f.line d ≡ line.Await h.job
+awaited_is p f h code d is =
+    let lt : f.line < length code = subst (λ (l : List Instruction). f.line < length l) (sym is)
+    (slice_get_within (code_of p f.tag) f.line (line.Await h.job) h.line_is) in
+    let both_ways : Some (get_or code f.line d) ≡ Some (line.Await h.job) = sym (slice_get-get_or code f.line d lt)
+    ∙ ap (λ (l : List Instruction). slice_get l f.line) is ∙ h.line_is in
+    cc
+
+-- and that name has a row
+pub awaited_named : (p : Program) (f : Frame) → AwaitsNamed p f → (code : List Instruction) (d : Instruction) (job : ℕ)
+    → code ≡ code_of p f.tag → get_or code f.line d ≡ line.Await job → job < length f.rows.items
+awaited_named p f h code d job is at =
+    let both_ways : line.Await job ≡ line.Await h.job = sym at ∙ awaited_is p f h code d is in
+    let same : job ≡ h.job = cc in
+    subst (λ n. n < length f.rows.items) (sym same) h.named
+
+-- which is the one to be seen
 pub awaited_row : (p : Program) (f : Frame) → AwaitsNamed p f → (code : List Instruction) (d : Instruction) (job row : ℕ)
     → code ≡ code_of p f.tag → get_or code f.line d ≡ line.Await job → row ≡ get_or f.rows.items job row
     → HasToSee p f.tag (config_of f) row
 awaited_row p f h code d job row is at e =
-    let lt : f.line < length code = subst (λ (l : List Instruction). f.line < length l) (sym is)
-    (slice_get_within (code_of p f.tag) f.line (line.Await h.job) h.line_is) in
-    let here : slice_get code f.line ≡ Some (line.Await job) = slice_get-get_or code f.line d lt ∙ ap Some at in
-    let there : slice_get code f.line ≡ Some (line.Await h.job) = ap (λ (l : List Instruction). slice_get l f.line) is ∙ h.line_is in
-    let both_ways : Some (line.Await job) ≡ Some (line.Await h.job) = sym here ∙ there in
-    let same : job ≡ h.job = cc in
-    let short : job < length f.rows.items = subst (λ n. n < length f.rows.items) (sym same) h.named in
-    HasToSee.job job row h.sees (ap (λ (l : List Instruction). slice_get l f.line) (sym is)
-    ∙ here) (slice_get_read f.rows.items (length f.rows.items) job row refl short e)
+    let both_ways : line.Await job ≡ line.Await h.job = sym at ∙ awaited_is p f h code d is in
+    let same : h.job ≡ job = cc in
+    HasToSee.job job row h.sees (h.line_is ∙ ap (λ n. Some (line.Await n)) same)
+    (slice_get_read f.rows.items (length f.rows.items) job row refl (awaited_named p f h code d job is at) e)
 
 -- ---- the Job
 

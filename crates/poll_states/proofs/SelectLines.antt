@@ -1,6 +1,7 @@
 -- The select of a line: its clauses may be selected from, and what it comes to.
 use Rattle.std.specs.Prelude.{◌≡◌, ℕ, zero, suc, Bool, true, false, if◌then◌else◌, OnOk, Result, Err, ◌+◌, ◌-◌, ◌<◌, ◌≤◌, ◌++◌, List, [], ◌∷◌, length, map, take, drop, Option, Some, None, slice_get, refl, Ok}
 use Rattle.std.proofs.Common.{sym, ap, ◌∙◌, subst, arith}
+use Rattle.std.proofs.lemmas.Option.{slice_get_within}
 use Rattle.std.proofs.lemmas.List.{take_rest}
 use Rattle.co_base.specs.declared.names.Memory.{Memory}
 use Rattle.co_base.specs.declared.names.WaitId.{WaitId}
@@ -239,6 +240,14 @@ run_moves p c f g l (Ok done) is h = λ at. let same : l ≡ line.Select = some_
     some_same : {A : Type 0} {a b : A} → Some a ≡ Some b → a ≡ b
     some_same e = cc
 run_moves p c f g l (Err x) is h = tt
+
+-- where no line is left it is at no select
+pub end_moves : (p : Program) (c : ChannelFloor) (f g : Frame) (code : List Instruction) (r : Result (Unit {0}) Memory)
+    → code ≡ code_of p f.tag → length code ≤ f.line → OnOk r (MovesOn p c f g)
+end_moves p c f g code (Ok done) e le = λ at.
+    let lt = slice_get_within (code_of p f.tag) f.line line.Select at.line_is in
+    absurd (let no_way : ⊥ = omega (arith, lt, le, ap length e) in no_way)
+end_moves p c f g code (Err x) e le = tt
 
 -- and behind the line
 pub still_moves_on : (s : Script) (c : ChannelFloor) (f : Frame) (m b : SeenAtPoll) (r : Result Turn Memory) → WentOnAnswer s m b r

@@ -1,9 +1,9 @@
-use Rattle.std.proofs.Common.{ap, subst, ◌∙◌, ◌<◌, arith, length, get_or, take, add-one, take_all}
+use Rattle.std.proofs.Common.{ap, refl, subst, ◌∙◌, ◌<◌, arith, length, get_or, take, add-one, take_all}
 use Rattle.std.specs.List.{All}
-use Rattle.std.proofs.lemmas.List.Elements.{All-weaker}
+use Rattle.std.proofs.lemmas.List.Elements.{All-weaker, All-nil}
 use Rattle.engine_many.specs.Parts.{sight_of, tag_of}
 use Rattle.run_laws.specs.LastRounds.{KnowsAllOf, HasRested}
-use Rattle.run_laws.proofs.Hearing.{saw_then, known_same, rested_same, known_more, known_told, within_same}
+use Rattle.run_laws.proofs.Hearing.{saw_then, known_same, rested_same, known_more, known_told, within_same, within_itself}
 use Rattle.engine_many.proofs.Changed.{map_changed, all_changed, all_up_to}
 use Rattle.engine_many.proofs.meetings.hear_all.Goals as goal
 
@@ -38,3 +38,23 @@ returns-clause-heard g c =
     let at = sight_of g.C.ChannelFloor.view g.J.JobFloor.view in
     subst (All (λ z. KnowsAllOf (at c.loop-other.root) (at z))) (take_all c.loop-other.other-index c.loop-other.others (omega arith))
     c.loop-other.invariant.heard
+
+pub loop-other-init : goal.loop-other-init
+loop-other-init g c =
+    let at = sight_of g.C.ChannelFloor.view g.J.JobFloor.view in
+    record {
+      root = record { frame = refl; within = within_itself (at c.args.root.now); same = record { calls = refl; jobs = refl } };
+      tags = refl;
+      heard = All-nil (λ z. KnowsAllOf (at c.args.root.now) (at z));
+      known = λ first all. all;
+      rested = λ p first all. all;
+    }
+
+pub returns-clause-known : goal.returns-clause-known
+returns-clause-known g c = λ first all. c.loop-other.invariant.known first all
+
+pub returns-clause-rested : goal.returns-clause-rested
+returns-clause-rested g c = λ p first all. c.loop-other.invariant.rested p first all
+
+pub returns-clause-root : goal.returns-clause-root
+returns-clause-root g c = c.loop-other.invariant.root

@@ -1,5 +1,6 @@
-use Rattle.std.proofs.Common.{ap, subst, ◌∙◌, ◌<◌, arith, length, get_or, add-one, take_all}
+use Rattle.std.proofs.Common.{ap, refl, subst, ◌∙◌, ◌<◌, arith, length, get_or, add-one, take_all}
 use Rattle.std.specs.List.{All}
+use Rattle.std.proofs.lemmas.List.Elements.{All-nil}
 use Rattle.engine_many.specs.Parts.{sight_of, tag_of}
 use Rattle.run_laws.specs.Sights.{IsWithin}
 use Rattle.run_laws.specs.LastRounds.{KnowsAllOf, HasRested}
@@ -34,3 +35,23 @@ returns-clause-told g c =
     let at = sight_of g.C.ChannelFloor.view g.J.JobFloor.view in
     subst (All (λ z. IsWithin (at c.args.root.now) (at z))) (take_all c.loop-other.other-index c.loop-other.others (omega arith))
     c.loop-other.invariant.told
+
+pub loop-other-init : goal.loop-other-init
+loop-other-init g c =
+    let at = sight_of g.C.ChannelFloor.view g.J.JobFloor.view in
+    record {
+      root = record { frame = refl; channels = refl; jobs = refl };
+      tags = refl;
+      told = All-nil (λ z. IsWithin (at c.args.root.now) (at z));
+      known = λ first all. all;
+      rested = λ p first all. all;
+    }
+
+pub returns-clause-known : goal.returns-clause-known
+returns-clause-known g c = λ first all. c.loop-other.invariant.known first all
+
+pub returns-clause-rested : goal.returns-clause-rested
+returns-clause-rested g c = λ p first all. c.loop-other.invariant.rested p first all
+
+pub returns-clause-root : goal.returns-clause-root
+returns-clause-root g c = c.loop-other.invariant.root

@@ -24,3 +24,15 @@ rounds-preserved g c = record {
   some = omega (arith, c.in_ok-left.ensures.lanes);
   few = omega (arith, c.in_ok-left.ensures.lanes);
 }
+
+pub rounds-init : goal.rounds-init
+rounds-init g c = record {
+  finite = (tt, tt);
+  count = c.requires.count;
+  tags = c.requires.tags;
+  some = c.requires.some;
+  few = c.requires.few;
+}
+
+pub index_mut-requires : goal.index_mut-requires
+index_mut-requires g c = omega (arith, c.in_ok-left.ensures.lanes, c.rounds.invariant.some)

@@ -123,3 +123,18 @@ returns-clause-aside g c = spare g.N.ScriptName.program (program_of c.args.scrip
     (hub_floor c.loop-tag.root.hub.now c.loop-tag.root.pass) (hub_floor c.split-aside.result.hub.now c.split-aside.result.pass)
     (floor_seen (seen_by c.split_beside-aside_jobs.result.pass)) c.requires.script
     c.coroutines-count.ensures c.split-aside.ensures.seat c.split_beside-aside_jobs.ensures.seat
+
+pub split-channels-requires : goal.split-channels-requires
+split-channels-requires g c = c.loop-tag.invariant.nobody c.loop-tag.tag (omega arith)
+
+pub split_beside-root_jobs-requires-clause-forest : goal.split_beside-root_jobs-requires-clause-forest
+split_beside-root_jobs-requires-clause-forest g c = c.requires.forest
+
+pub split_beside-jobs-requires-clause-forest : goal.split_beside-jobs-requires-clause-forest
+split_beside-jobs-requires-clause-forest g c = c.requires.forest
+
+pub split_beside-aside_jobs-requires-clause-forest : goal.split_beside-aside_jobs-requires-clause-forest
+split_beside-aside_jobs-requires-clause-forest g c = c.requires.forest
+
+pub child-requires-clause-child : goal.child-requires-clause-child
+child-requires-clause-child g c = let some : c.loop-tag.tag ≢ 0 = omega arith in some

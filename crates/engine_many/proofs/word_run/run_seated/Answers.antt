@@ -70,3 +70,13 @@ returns-clause-job_shape g c = c.in_ok-left.ensures.whole.job_shape
 
 pub returns-clause-rest : goal.returns-clause-rest
 returns-clause-rest g c = let rest = c.in_ok-left.ensures.rest in (rest.0, rest.1 (λ j. refl))
+
+pub seat_tasks-requires-clause-channels : goal.seat_tasks-requires-clause-channels
+seat_tasks-requires-clause-channels g c = record {
+  shape = c.requires.channels.0;
+  seen = c.requires.channels.1;
+  caller = c.requires.hub.1.1;
+}
+
+pub invariant_of-root : goal.invariant_of-root
+invariant_of-root g c = record { of = c.requires.hub.1.0; named = c.requires.hub.0 }

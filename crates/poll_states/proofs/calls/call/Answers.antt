@@ -56,3 +56,21 @@ returns-in-Err-answer-clause-came g c =
     cut_from c.room_for.new.self.tag (g.B.NoteBook.items c.room_for.new.self.book) c.room_for.ensures.tag
     c.room_for.ensures.items
     (cut_told _ refl refl c.in-Err-answer.ensures.answer)
+
+pub returns-in-Ok-clause-same : goal.returns-in-Ok-clause-same
+returns-in-Ok-clause-same g c = record {
+  channels_lent = c.hear.ensures.same.channels_lent;
+  jobs_lent = c.hear.ensures.same.jobs_lent;
+  wakes_lent = c.hear.ensures.same.wakes_lent;
+  channels_are = c.hear.ensures.same.channels_are ∙ c.in-Ok.ensures.same.anchor_is;
+  jobs_are = c.hear.ensures.same.jobs_are;
+}
+
+pub returns-in-Err-answer-clause-same : goal.returns-in-Err-answer-clause-same
+returns-in-Err-answer-clause-same g c = record {
+  channels_lent = refl;
+  jobs_lent = refl;
+  wakes_lent = refl;
+  channels_are = c.in-Err-answer.ensures.same.anchor_is;
+  jobs_are = refl;
+}

@@ -1,4 +1,4 @@
-use Rattle.poll_states.proofs.ChannelLines.{sent_made, tried_to_send_made, tried_to_receive_made, closed_made, cancelled_made, send_part, try_send_part, receive_part, each_part, try_receive_part, close_part, cancel_part}
+use Rattle.poll_states.proofs.ChannelLines.{sent_made, tried_to_send_made, received_made, each_made, tried_to_receive_made, closed_made, cancelled_made, send_part, try_send_part, receive_part, each_part, try_receive_part, close_part, cancel_part}
 use Rattle.poll_states.proofs.calls.make.Goals as goal
 
 pub returns-in-Ok-clause-answer : goal.returns-in-Ok-clause-answer
@@ -40,4 +40,55 @@ pub returns-in-Err-close-clause-answer : goal.returns-in-Err-close-clause-answer
 returns-in-Err-close-clause-answer g c = rw c.in-Close.is (close_part _ c.args.value c.in-Err-close.ensures.answer)
 
 pub returns-in-Err-cancel_channel-clause-answer : goal.returns-in-Err-cancel_channel-clause-answer
-returns-in-Err-cancel_channel-clause-answer g c = rw c.in-CancelChannel.is (cancel_part _ c.args.value c.in-Err-cancel_channel.ensures.answer)
+returns-in-Err-cancel_channel-clause-answer g c = rw c.in-CancelChannel.is
+    (cancel_part _ c.args.value c.in-Err-cancel_channel.ensures.answer)
+
+pub returns-in-Ok-clause-same : goal.returns-in-Ok-clause-same
+returns-in-Ok-clause-same g c = c.in-Ok.ensures.same
+
+pub returns-in-Ok-try_send-clause-same : goal.returns-in-Ok-try_send-clause-same
+returns-in-Ok-try_send-clause-same g c = c.in-Ok-try_send.ensures.same
+
+pub returns-in-Ok-receive-clause-same : goal.returns-in-Ok-receive-clause-same
+returns-in-Ok-receive-clause-same g c = c.in-Ok-receive.ensures.same
+
+pub returns-in-Ok-receive-2-clause-same : goal.returns-in-Ok-receive-2-clause-same
+returns-in-Ok-receive-2-clause-same g c = c.in-Ok-receive-2.ensures.same
+
+pub returns-in-Ok-try_receive-clause-same : goal.returns-in-Ok-try_receive-clause-same
+returns-in-Ok-try_receive-clause-same g c = c.in-Ok-try_receive.ensures.same
+
+pub returns-in-Ok-close-clause-same : goal.returns-in-Ok-close-clause-same
+returns-in-Ok-close-clause-same g c = c.in-Ok-close.ensures.same
+
+pub returns-in-Ok-cancel_channel-clause-same : goal.returns-in-Ok-cancel_channel-clause-same
+returns-in-Ok-cancel_channel-clause-same g c = c.in-Ok-cancel_channel.ensures.same
+
+pub returns-in-Err-clause-same : goal.returns-in-Err-clause-same
+returns-in-Err-clause-same g c = c.in-Err.ensures.same
+
+pub returns-in-Err-try_send-clause-same : goal.returns-in-Err-try_send-clause-same
+returns-in-Err-try_send-clause-same g c = c.in-Err-try_send.ensures.same
+
+pub returns-in-Err-receive-clause-same : goal.returns-in-Err-receive-clause-same
+returns-in-Err-receive-clause-same g c = c.in-Err-receive.ensures.same
+
+pub returns-in-Err-receive-2-clause-same : goal.returns-in-Err-receive-2-clause-same
+returns-in-Err-receive-2-clause-same g c = c.in-Err-receive-2.ensures.same
+
+pub returns-in-Err-try_receive-clause-same : goal.returns-in-Err-try_receive-clause-same
+returns-in-Err-try_receive-clause-same g c = c.in-Err-try_receive.ensures.same
+
+pub returns-in-Err-close-clause-same : goal.returns-in-Err-close-clause-same
+returns-in-Err-close-clause-same g c = c.in-Err-close.ensures.same
+
+pub returns-in-Err-cancel_channel-clause-same : goal.returns-in-Err-cancel_channel-clause-same
+returns-in-Err-cancel_channel-clause-same g c = c.in-Err-cancel_channel.ensures.same
+
+pub returns-in-Ok-receive-clause-answer : goal.returns-in-Ok-receive-clause-answer
+returns-in-Ok-receive-clause-answer g c = rw c.in-Receive.is
+    (received_made _ c.args.value _ _ c.in-Ok-receive.answer _ c.of_receive.ensures c.in-Ok-receive.ensures.answer)
+
+pub returns-in-Ok-receive-2-clause-answer : goal.returns-in-Ok-receive-2-clause-answer
+returns-in-Ok-receive-2-clause-answer g c = rw c.in-Each.is
+    (each_made _ c.args.value _ _ c.in-Ok-receive-2.answer _ c.of_receive-in-Ok-receive-2.ensures c.in-Ok-receive-2.ensures.answer)

@@ -25,3 +25,21 @@ returns-in-Ok-clause-came g c = has_broken (program_of c.args.script.now) c.firs
 
 pub returns-in-Err-clause-came : goal.returns-in-Err-clause-came
 returns-in-Err-clause-came g c = cut_some _ _ _ refl c.in-Err.ensures.answer
+
+pub returns-in-Ok-clause-same : goal.returns-in-Ok-clause-same
+returns-in-Ok-clause-same g c = record {
+  channels_lent = refl;
+  jobs_lent = refl;
+  wakes_lent = refl;
+  channels_are = c.in-Ok.ensures.same.of_channels;
+  jobs_are = c.in-Ok.ensures.same.of_jobs;
+}
+
+pub returns-in-Err-clause-same : goal.returns-in-Err-clause-same
+returns-in-Err-clause-same g c = record {
+  channels_lent = refl;
+  jobs_lent = refl;
+  wakes_lent = refl;
+  channels_are = c.in-Err.ensures.same.of_channels;
+  jobs_are = c.in-Err.ensures.same.of_jobs;
+}

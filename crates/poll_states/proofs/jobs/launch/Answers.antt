@@ -63,3 +63,30 @@ returns-in-Used-clause-came g c = rw c.tell-in-Used.ensures.jobs
 pub returns-in-Memory-clause-came : goal.returns-in-Memory-clause-came
 returns-in-Memory-clause-came g c = cut_jobs _ (ap g.C.ChannelFloor.view c.in-Err.ensures.channels) refl
     (rw c.in-Memory.is at c.in-Err.ensures.answer)
+
+pub returns-in-Ok-clause-same : goal.returns-in-Ok-clause-same
+returns-in-Ok-clause-same g c = record {
+  channels_lent = c.tell.ensures.same.channels_lent;
+  jobs_lent = c.tell.ensures.same.jobs_lent;
+  wakes_lent = c.tell.ensures.same.wakes_lent;
+  channels_are = c.tell.ensures.same.channels_are ∙ c.in-Ok.ensures.same.of_channels;
+  jobs_are = c.tell.ensures.same.jobs_are ∙ c.in-Ok.ensures.same.of_jobs;
+}
+
+pub returns-in-Used-clause-same : goal.returns-in-Used-clause-same
+returns-in-Used-clause-same g c = record {
+  channels_lent = c.tell-in-Used.ensures.same.channels_lent;
+  jobs_lent = c.tell-in-Used.ensures.same.jobs_lent;
+  wakes_lent = c.tell-in-Used.ensures.same.wakes_lent;
+  channels_are = c.tell-in-Used.ensures.same.channels_are ∙ c.in-Err.ensures.same.of_channels;
+  jobs_are = c.tell-in-Used.ensures.same.jobs_are ∙ c.in-Err.ensures.same.of_jobs;
+}
+
+pub returns-in-Memory-clause-same : goal.returns-in-Memory-clause-same
+returns-in-Memory-clause-same g c = record {
+  channels_lent = refl;
+  jobs_lent = refl;
+  wakes_lent = refl;
+  channels_are = c.in-Err.ensures.same.of_channels;
+  jobs_are = c.in-Err.ensures.same.of_jobs;
+}

@@ -37,3 +37,21 @@ returns-in-MayRun-clause-came g c = rw c.tell-in-MayRun.ensures.jobs (yielded (p
     (c.tell-in-MayRun.ensures.told _ c.requires.stands.on.of_channels) (g.met.J.JobFloor.legal c.own_state-state.new.jobs)
     c.requires.at (rw c.innermost-row.ensures at (rw c.in-MayRun.is at c.own_state-state.ensures.seen)) c.next_line.ensures.tag
     c.next_line.ensures.config (c.next_line.ensures.items ∙ c.room.ensures.items))
+
+pub returns-in-Cancelling-clause-same : goal.returns-in-Cancelling-clause-same
+returns-in-Cancelling-clause-same g c = record {
+  channels_lent = c.tell.ensures.same.channels_lent;
+  jobs_lent = c.tell.ensures.same.jobs_lent;
+  wakes_lent = c.tell.ensures.same.wakes_lent;
+  channels_are = c.tell.ensures.same.channels_are;
+  jobs_are = c.tell.ensures.same.jobs_are ∙ c.own_state-state.ensures.anchor;
+}
+
+pub returns-in-MayRun-clause-same : goal.returns-in-MayRun-clause-same
+returns-in-MayRun-clause-same g c = record {
+  channels_lent = c.tell-in-MayRun.ensures.same.channels_lent;
+  jobs_lent = c.tell-in-MayRun.ensures.same.jobs_lent;
+  wakes_lent = c.tell-in-MayRun.ensures.same.wakes_lent;
+  channels_are = c.tell-in-MayRun.ensures.same.channels_are;
+  jobs_are = c.tell-in-MayRun.ensures.same.jobs_are ∙ c.own_state-state.ensures.anchor;
+}

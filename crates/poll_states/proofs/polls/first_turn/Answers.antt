@@ -1,4 +1,4 @@
-use Rattle.std.proofs.Common.{refl, ap}
+use Rattle.std.proofs.Common.{refl, ap, ◌∙◌}
 use Rattle.script_reader.specs.Scripts.{program_of}
 use Rattle.script_meaning.specs.Configs.{Config}
 use Rattle.script_meaning.specs.Bodies.{is_over}
@@ -73,3 +73,39 @@ returns-in-Err-run-clause-polled g c = cut_first
     (rw c.tell-in-MayRun.ensures.jobs (rw c.in-MayRun.is at c.own_state.ensures.seen))
     (rw c.tell-in-MayRun.ensures.jobs (c.tell-in-MayRun.ensures.told _ c.requires.stands.on.of_channels)) refl c.room.ensures.items
     c.in-Err-run.ensures.came
+
+pub returns-in-Cancelling-clause-same : goal.returns-in-Cancelling-clause-same
+returns-in-Cancelling-clause-same g c = record {
+  channels_lent = c.tell.ensures.same.channels_lent;
+  jobs_lent = c.tell.ensures.same.jobs_lent;
+  wakes_lent = c.tell.ensures.same.wakes_lent;
+  channels_are = c.tell.ensures.same.channels_are;
+  jobs_are = c.tell.ensures.same.jobs_are ∙ c.own_state.ensures.anchor;
+}
+
+pub returns-in-Ok-clause-same : goal.returns-in-Ok-clause-same
+returns-in-Ok-clause-same g c = record {
+  channels_lent = c.go_on.ensures.same.channels_lent ∙ c.in-Ok.ensures.same.channels_lent ∙ c.tell-in-MayRun.ensures.same.channels_lent;
+  jobs_lent = c.go_on.ensures.same.jobs_lent ∙ c.in-Ok.ensures.same.jobs_lent ∙ c.tell-in-MayRun.ensures.same.jobs_lent;
+  wakes_lent = c.go_on.ensures.same.wakes_lent ∙ c.in-Ok.ensures.same.wakes_lent ∙ c.tell-in-MayRun.ensures.same.wakes_lent;
+  channels_are = c.go_on.ensures.same.channels_are ∙ c.in-Ok.ensures.same.channels_are ∙ c.tell-in-MayRun.ensures.same.channels_are;
+  jobs_are = c.go_on.ensures.same.jobs_are ∙ c.in-Ok.ensures.same.jobs_are ∙ c.tell-in-MayRun.ensures.same.jobs_are ∙ c.own_state.ensures.anchor;
+}
+
+pub returns-in-Err-run-clause-same : goal.returns-in-Err-run-clause-same
+returns-in-Err-run-clause-same g c = record {
+  channels_lent = c.in-Err-run.ensures.same.channels_lent ∙ c.tell-in-MayRun.ensures.same.channels_lent;
+  jobs_lent = c.in-Err-run.ensures.same.jobs_lent ∙ c.tell-in-MayRun.ensures.same.jobs_lent;
+  wakes_lent = c.in-Err-run.ensures.same.wakes_lent ∙ c.tell-in-MayRun.ensures.same.wakes_lent;
+  channels_are = c.in-Err-run.ensures.same.channels_are ∙ c.tell-in-MayRun.ensures.same.channels_are;
+  jobs_are = c.in-Err-run.ensures.same.jobs_are ∙ c.tell-in-MayRun.ensures.same.jobs_are ∙ c.own_state.ensures.anchor;
+}
+
+pub returns-in-NotStarted-clause-same : goal.returns-in-NotStarted-clause-same
+returns-in-NotStarted-clause-same g c = record {
+  channels_lent = refl;
+  jobs_lent = refl;
+  wakes_lent = refl;
+  channels_are = refl;
+  jobs_are = c.own_state.ensures.anchor;
+}

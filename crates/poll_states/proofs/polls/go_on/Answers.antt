@@ -11,3 +11,12 @@ returns-in-Ok-clause-went g c = WentOn.seen (sees_end _ c.in-SeesJob.is) refl c.
 
 pub returns-in_default-clause-went : goal.returns-in_default-clause-went
 returns-in_default-clause-went g c = WentOn.answered refl (ap g.C.ChannelFloor.view c.answer.ensures.channels) c.answer.ensures.answered
+
+pub returns-in-Ok-clause-same : goal.returns-in-Ok-clause-same
+returns-in-Ok-clause-same g c = c.in-Ok.ensures.same
+
+pub returns-in-Err-clause-same : goal.returns-in-Err-clause-same
+returns-in-Err-clause-same g c = c.in-Err.ensures.same
+
+pub returns-in_default-clause-same : goal.returns-in_default-clause-same
+returns-in_default-clause-same g c = c.answer.ensures.same

@@ -1,7 +1,5 @@
-use Rattle.std.proofs.Common.{refl, ap, sym, subst}
+use Rattle.std.proofs.Common.{refl, ap, ◌∙◌}
 use Rattle.script_reader.specs.Scripts.{program_of}
-use Rattle.poll_states.specs.Frames.{noted, at_poll}
-use Rattle.poll_states.specs.Steps.{Stepped}
 use Rattle.poll_states.proofs.EndedWaits.{call_looked}
 use Rattle.poll_states.proofs.Moving.{step_stands}
 use Rattle.poll_states.proofs.GoneOn.{poll_on, quiet_on, scope_waited, cut_scope_wait, leave_waits}
@@ -54,3 +52,30 @@ returns-in-Err-clause-polled g c = cut_scope_wait _ _ _ c.was_resolved.ensures.s
 pub returns-else-was_resolved-clause-polled : goal.returns-else-was_resolved-clause-polled
 returns-else-was_resolved-clause-polled g c = leave_waits _ _ _ _ _ _ _ (g.met.J.JobFloor.legal c.args.floors.now.jobs.now)
     c.requires.stands c.requires.leaves (rw c.if-was_resolved.false at c.was_resolved.ensures.seen) refl refl refl
+
+pub returns-in-Ok-clause-same : goal.returns-in-Ok-clause-same
+returns-in-Ok-clause-same g c = record {
+  channels_lent = c.go_on.ensures.same.channels_lent ∙ c.hear.ensures.same.channels_lent ∙ c.end_scope_wait.ensures.same.channels_lent;
+  jobs_lent = c.go_on.ensures.same.jobs_lent ∙ c.hear.ensures.same.jobs_lent ∙ c.end_scope_wait.ensures.same.jobs_lent;
+  wakes_lent = c.go_on.ensures.same.wakes_lent ∙ c.hear.ensures.same.wakes_lent ∙ c.end_scope_wait.ensures.same.wakes_lent;
+  channels_are = c.go_on.ensures.same.channels_are ∙ c.hear.ensures.same.channels_are ∙ c.end_scope_wait.ensures.same.channels_are ∙ c.was_resolved.ensures.anchor;
+  jobs_are = c.go_on.ensures.same.jobs_are ∙ c.hear.ensures.same.jobs_are ∙ ap g.J.JobFloor.anchor c.end_scope_wait.ensures.jobs;
+}
+
+pub returns-in-Err-clause-same : goal.returns-in-Err-clause-same
+returns-in-Err-clause-same g c = record {
+  channels_lent = c.end_scope_wait.ensures.same.channels_lent;
+  jobs_lent = c.end_scope_wait.ensures.same.jobs_lent;
+  wakes_lent = c.end_scope_wait.ensures.same.wakes_lent;
+  channels_are = c.end_scope_wait.ensures.same.channels_are ∙ c.was_resolved.ensures.anchor;
+  jobs_are = ap g.J.JobFloor.anchor c.end_scope_wait.ensures.jobs;
+}
+
+pub returns-else-was_resolved-clause-same : goal.returns-else-was_resolved-clause-same
+returns-else-was_resolved-clause-same g c = record {
+  channels_lent = refl;
+  jobs_lent = refl;
+  wakes_lent = refl;
+  channels_are = c.was_resolved.ensures.anchor;
+  jobs_are = refl;
+}

@@ -1,10 +1,10 @@
-use Rattle.std.proofs.Common.{refl, ap, sym, subst}
+use Rattle.std.proofs.Common.{refl, ap, sym, subst, ◌∙◌}
 use Rattle.script_reader.specs.Scripts.{program_of}
 use Rattle.script_meaning.specs.Configs.{Config}
 use Rattle.script_meaning.specs.Bodies.{is_over, is_fresh, is_leaving}
 use Rattle.script_meaning.specs.Laws.{wait_of}
-use Rattle.poll_states.specs.Frames.{noted, at_poll}
-use Rattle.poll_states.specs.Steps.{HasBody, Stepped}
+use Rattle.poll_states.specs.Frames.{noted}
+use Rattle.poll_states.specs.Steps.{HasBody}
 use Rattle.poll_states.proofs.Standing.{stands_body, never_new, waits_unsettled, wait_call, wait_line}
 use Rattle.poll_states.proofs.BothSeen.{seen_ready, callers_since, channels_since, state_since}
 use Rattle.poll_states.proofs.EndedWaits.{holds_looked, call_looked, wait_ended, gave_up, cut_end, cut_given}
@@ -133,3 +133,42 @@ returns-else-resolved-clause-polled g c =
     polled_waits (g.met.J.JobFloor.legal c.look_at_both-resolved.new.floors.jobs.now) c.requires.stands c.requires.waits
     (rw c.if-resolved.false at (rw c.innermost-row.ensures at (rw c.in-MayRun.is at c.look_at_both-resolved.ensures.seen))) refl refl
     c.room.ensures.items
+
+pub returns-in-Ok-clause-same : goal.returns-in-Ok-clause-same
+returns-in-Ok-clause-same g c = record {
+  channels_lent = c.hear.ensures.same.channels_lent ∙ c.give_up.ensures.same.channels_lent ∙ c.look_at_both-resolved.ensures.same.channels_lent;
+  jobs_lent = c.hear.ensures.same.jobs_lent ∙ c.give_up.ensures.same.jobs_lent ∙ c.look_at_both-resolved.ensures.same.jobs_lent;
+  wakes_lent = c.hear.ensures.same.wakes_lent ∙ c.give_up.ensures.same.wakes_lent ∙ c.look_at_both-resolved.ensures.same.wakes_lent;
+  channels_are = c.hear.ensures.same.channels_are ∙ c.give_up.ensures.same.channels_are ∙ c.look_at_both-resolved.ensures.same.channels_are;
+  jobs_are = c.hear.ensures.same.jobs_are ∙ ap g.J.JobFloor.anchor c.give_up.ensures.jobs ∙ c.look_at_both-resolved.ensures.same.jobs_are;
+}
+
+pub returns-in-Err-give_up-clause-same : goal.returns-in-Err-give_up-clause-same
+returns-in-Err-give_up-clause-same g c = record {
+  channels_lent = c.give_up.ensures.same.channels_lent ∙ c.look_at_both-resolved.ensures.same.channels_lent;
+  jobs_lent = c.give_up.ensures.same.jobs_lent ∙ c.look_at_both-resolved.ensures.same.jobs_lent;
+  wakes_lent = c.give_up.ensures.same.wakes_lent ∙ c.look_at_both-resolved.ensures.same.wakes_lent;
+  channels_are = c.give_up.ensures.same.channels_are ∙ c.look_at_both-resolved.ensures.same.channels_are;
+  jobs_are = ap g.J.JobFloor.anchor c.give_up.ensures.jobs ∙ c.look_at_both-resolved.ensures.same.jobs_are;
+}
+
+pub returns-in-Ok-end_wait-clause-same : goal.returns-in-Ok-end_wait-clause-same
+returns-in-Ok-end_wait-clause-same g c = record {
+  channels_lent = c.go_on.ensures.same.channels_lent ∙ c.hear-in-Ok-end_wait.ensures.same.channels_lent ∙ c.end_wait.ensures.same.channels_lent ∙ c.look_at_both-resolved.ensures.same.channels_lent;
+  jobs_lent = c.go_on.ensures.same.jobs_lent ∙ c.hear-in-Ok-end_wait.ensures.same.jobs_lent ∙ c.end_wait.ensures.same.jobs_lent ∙ c.look_at_both-resolved.ensures.same.jobs_lent;
+  wakes_lent = c.go_on.ensures.same.wakes_lent ∙ c.hear-in-Ok-end_wait.ensures.same.wakes_lent ∙ c.end_wait.ensures.same.wakes_lent ∙ c.look_at_both-resolved.ensures.same.wakes_lent;
+  channels_are = c.go_on.ensures.same.channels_are ∙ c.hear-in-Ok-end_wait.ensures.same.channels_are ∙ c.end_wait.ensures.same.channels_are ∙ c.look_at_both-resolved.ensures.same.channels_are;
+  jobs_are = c.go_on.ensures.same.jobs_are ∙ c.hear-in-Ok-end_wait.ensures.same.jobs_are ∙ ap g.J.JobFloor.anchor c.end_wait.ensures.jobs ∙ c.look_at_both-resolved.ensures.same.jobs_are;
+}
+
+pub returns-in-Err-end_wait-clause-same : goal.returns-in-Err-end_wait-clause-same
+returns-in-Err-end_wait-clause-same g c = record {
+  channels_lent = c.end_wait.ensures.same.channels_lent ∙ c.look_at_both-resolved.ensures.same.channels_lent;
+  jobs_lent = c.end_wait.ensures.same.jobs_lent ∙ c.look_at_both-resolved.ensures.same.jobs_lent;
+  wakes_lent = c.end_wait.ensures.same.wakes_lent ∙ c.look_at_both-resolved.ensures.same.wakes_lent;
+  channels_are = c.end_wait.ensures.same.channels_are ∙ c.look_at_both-resolved.ensures.same.channels_are;
+  jobs_are = ap g.J.JobFloor.anchor c.end_wait.ensures.jobs ∙ c.look_at_both-resolved.ensures.same.jobs_are;
+}
+
+pub returns-else-resolved-clause-same : goal.returns-else-resolved-clause-same
+returns-else-resolved-clause-same g c = c.look_at_both-resolved.ensures.same

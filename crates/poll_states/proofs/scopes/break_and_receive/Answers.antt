@@ -1,3 +1,4 @@
+use Rattle.std.proofs.Common.{◌∙◌}
 use Rattle.poll_states.proofs.DoneReceived.{build_later, owns_attached, row_later, break_begun, break_received}
 use Rattle.poll_states.proofs.scopes.break_and_receive.Goals as goal
 
@@ -14,3 +15,18 @@ returns-in-Ok-clause-answer g c = break_received _ _ c.in-Ok.ensures.same.base c
 
 pub returns-in-Err-clause-answer : goal.returns-in-Err-clause-answer
 returns-in-Err-clause-answer g c = break_begun _ _ _ _ _ _ c.in-Err.ensures.answer
+
+pub returns-in-Ok-clause-same : goal.returns-in-Ok-clause-same
+returns-in-Ok-clause-same g c = record {
+  channels = c.receive_done.ensures.same.channels ∙ c.in-Ok.ensures.same.channels;
+  jobs = c.receive_done.ensures.same.jobs ∙ c.in-Ok.ensures.same.jobs;
+  book = c.receive_done.ensures.same.book ∙ c.in-Ok.ensures.same.book;
+  wakes = c.receive_done.ensures.same.wakes ∙ c.in-Ok.ensures.same.wakes;
+  who = c.receive_done.ensures.same.who ∙ c.in-Ok.ensures.same.who;
+  base = c.receive_done.ensures.same.base ∙ c.in-Ok.ensures.same.base;
+  of_channels = c.receive_done.ensures.same.of_channels ∙ c.in-Ok.ensures.same.of_channels;
+  of_jobs = c.receive_done.ensures.same.of_jobs ∙ c.in-Ok.ensures.same.of_jobs;
+}
+
+pub returns-in-Err-clause-same : goal.returns-in-Err-clause-same
+returns-in-Err-clause-same g c = c.in-Err.ensures.same

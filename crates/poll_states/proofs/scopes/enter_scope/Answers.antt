@@ -68,3 +68,30 @@ returns-in-Memory-clause-came g c =
     cut_from c.room_to_enter.new.self.tag (g.B.NoteBook.items c.room_to_enter.new.self.book) c.room_to_enter.ensures.tag
     c.room_to_enter.ensures.items
     (cut_jobs _ (ap g.C.ChannelFloor.view c.in-Err-answer.ensures.channels) refl (rw c.in-Memory.is at c.in-Err-answer.ensures.answer))
+
+pub returns-in-Ok-clause-same : goal.returns-in-Ok-clause-same
+returns-in-Ok-clause-same g c = record {
+  channels_lent = c.tell.ensures.same.channels_lent;
+  jobs_lent = c.tell.ensures.same.jobs_lent;
+  wakes_lent = c.tell.ensures.same.wakes_lent;
+  channels_are = c.tell.ensures.same.channels_are ∙ c.in-Ok.ensures.same.of_channels;
+  jobs_are = c.tell.ensures.same.jobs_are ∙ c.in-Ok.ensures.same.of_jobs;
+}
+
+pub returns-in-NoRow-clause-same : goal.returns-in-NoRow-clause-same
+returns-in-NoRow-clause-same g c = record {
+  channels_lent = c.tell-in-NoRow.ensures.same.channels_lent;
+  jobs_lent = c.tell-in-NoRow.ensures.same.jobs_lent;
+  wakes_lent = c.tell-in-NoRow.ensures.same.wakes_lent;
+  channels_are = c.tell-in-NoRow.ensures.same.channels_are ∙ c.in-Err-answer.ensures.same.of_channels;
+  jobs_are = c.tell-in-NoRow.ensures.same.jobs_are ∙ c.in-Err-answer.ensures.same.of_jobs;
+}
+
+pub returns-in-Memory-clause-same : goal.returns-in-Memory-clause-same
+returns-in-Memory-clause-same g c = record {
+  channels_lent = refl;
+  jobs_lent = refl;
+  wakes_lent = refl;
+  channels_are = c.in-Err-answer.ensures.same.of_channels;
+  jobs_are = c.in-Err-answer.ensures.same.of_jobs;
+}

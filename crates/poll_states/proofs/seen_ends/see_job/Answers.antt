@@ -1,4 +1,4 @@
-use Rattle.std.proofs.Common.{refl, ap, arith}
+use Rattle.std.proofs.Common.{refl, ap, arith, ◌∙◌}
 use Rattle.script_reader.specs.Scripts.{program_of}
 use Rattle.poll_states.proofs.Standing.{line_short}
 use Rattle.poll_states.proofs.LineNeeds.{stands_build}
@@ -39,3 +39,30 @@ returns-in-Ok-None-clause-came g c = inr (not_yet_seen
 
 pub returns-in-Err-clause-came : goal.returns-in-Err-clause-came
 returns-in-Err-clause-came g c = cut_jobs _ (ap g.C.ChannelFloor.view c.in-Err.ensures.channels) refl c.in-Err.ensures.answer
+
+pub returns-in-Ok-Some-clause-same : goal.returns-in-Ok-Some-clause-same
+returns-in-Ok-Some-clause-same g c = record {
+  channels_lent = c.tell.ensures.same.channels_lent;
+  jobs_lent = c.tell.ensures.same.jobs_lent;
+  wakes_lent = c.tell.ensures.same.wakes_lent;
+  channels_are = c.tell.ensures.same.channels_are ∙ c.in-Ok-Some.ensures.same.of_channels;
+  jobs_are = c.tell.ensures.same.jobs_are ∙ c.in-Ok-Some.ensures.same.of_jobs;
+}
+
+pub returns-in-Ok-None-clause-same : goal.returns-in-Ok-None-clause-same
+returns-in-Ok-None-clause-same g c = record {
+  channels_lent = refl;
+  jobs_lent = refl;
+  wakes_lent = refl;
+  channels_are = c.in-Ok-None.ensures.same.of_channels;
+  jobs_are = c.in-Ok-None.ensures.same.of_jobs;
+}
+
+pub returns-in-Err-clause-same : goal.returns-in-Err-clause-same
+returns-in-Err-clause-same g c = record {
+  channels_lent = refl;
+  jobs_lent = refl;
+  wakes_lent = refl;
+  channels_are = c.in-Err.ensures.same.of_channels;
+  jobs_are = c.in-Err.ensures.same.of_jobs;
+}

@@ -1,3 +1,4 @@
+use Rattle.std.proofs.Common.{refl}
 use Rattle.call_meaning.specs.ChannelCalls.{GivesUp}
 use Rattle.poll_states.proofs.EndedWaits.{gave_resolved, gave_cancelled, part_after, given_none, given_part}
 use Rattle.poll_states.proofs.waits.give_up.Goals as goal
@@ -17,3 +18,35 @@ returns-in-Err-clause-answer g c = part_after (GivesUp c.args.w) c.see_cancellin
 pub returns-in-Err-cancel_wait-clause-answer : goal.returns-in-Err-cancel_wait-clause-answer
 returns-in-Err-cancel_wait-clause-answer g c = part_after (GivesUp c.args.w) c.see_cancelling.ensures.items c.see_cancelling.ensures.tag
     (given_part c.args.w c.in-Err-cancel_wait.ensures.answer)
+
+pub returns-in-Ok-clause-same : goal.returns-in-Ok-clause-same
+returns-in-Ok-clause-same g c = record {
+  channels_lent = refl;
+  jobs_lent = refl;
+  wakes_lent = refl;
+  channels_are = c.in-Ok.ensures.same.anchor_is;
+}
+
+pub returns-in-Ok-cancel_wait-clause-same : goal.returns-in-Ok-cancel_wait-clause-same
+returns-in-Ok-cancel_wait-clause-same g c = record {
+  channels_lent = refl;
+  jobs_lent = refl;
+  wakes_lent = refl;
+  channels_are = c.in-Ok-cancel_wait.ensures.same.anchor_is;
+}
+
+pub returns-in-Err-clause-same : goal.returns-in-Err-clause-same
+returns-in-Err-clause-same g c = record {
+  channels_lent = refl;
+  jobs_lent = refl;
+  wakes_lent = refl;
+  channels_are = c.in-Err.ensures.same.anchor_is;
+}
+
+pub returns-in-Err-cancel_wait-clause-same : goal.returns-in-Err-cancel_wait-clause-same
+returns-in-Err-cancel_wait-clause-same g c = record {
+  channels_lent = refl;
+  jobs_lent = refl;
+  wakes_lent = refl;
+  channels_are = c.in-Err-cancel_wait.ensures.same.anchor_is;
+}
