@@ -1,7 +1,7 @@
 -- Each call of one who uses permits adds acts of that one alone.
-use Rattle.std.specs.Prelude.{ℕ, List, [], ◌++◌, Result, Ok, Err, refl}
+use Rattle.std.specs.Prelude.{◌≡◌, ℕ, List, [], ◌++◌, Result, Ok, Err, refl}
 use Rattle.co_base.proofs.Orders.{order_same}
-use Rattle.std.proofs.Common.{sym, subst}
+use Rattle.std.proofs.Common.{sym, ap, subst}
 use Rattle.co_base.specs.declared.names.WaitId.{WaitId}
 use Rattle.co_base.specs.declared.names.Memory.{Memory}
 use Rattle.channel_model.specs.Floors.{Floor, Looked}
@@ -17,8 +17,8 @@ use Rattle.permits.specs.declared.permits.Released.{Released}
 use Rattle.permits.specs.declared.permits.Released.TheVariants as released
 use Rattle.permits.specs.declared.permits.GivenBack.{GivenBack}
 use Rattle.permits.specs.declared.permits.GivenBack.TheVariants as back
-use Rattle.permits.specs.Answers.{TakenUpAnswer, ReleasedAnswer, GivenBackAnswer, StopsEarly}
-use Rattle.floor_tests.specs.KnownPermits.{Adds}
+use Rattle.permits.specs.Answers.{AcquiredAnswer, TakenUpAnswer, ReleasedAnswer, GivenBackAnswer, StopsEarly}
+use Rattle.floor_tests.specs.KnownPermits.{Adds, HoldsWait, IsOwnWait, wait_of}
 
 -- what a caller sees, in parts
 abbrev parts : ℕ → Floor → List Item → SeenOnChannels
@@ -29,7 +29,11 @@ told_adds : (who me : ℕ) (a d : Floor) (i k : List Item) (told : List Told) �
 told_adds who me a d i k told h = record { acts = _; added = h.added }
 
 pub nothing_adds : (who : ℕ) (a : Floor) → Adds who a a
-nothing_adds who a = record { acts = []; added = added_none who a a (record { shape = refl; alone = refl; callers = refl; order = order_same _ }) refl }
+nothing_adds who a = record {
+  acts = [];
+  added = added_none who a a
+      (record { shape = refl; alone = refl; callers = refl; order = order_same _ }) refl;
+}
 
 pub untouched_adds : (who me : ℕ) (a d : Floor) (i k : List Item) → IsUntouched (parts who a i) (parts me d k) → Adds who a d
 untouched_adds who me a d i k h = subst (Adds who a) (sym h.floor) (nothing_adds who a)
@@ -39,6 +43,26 @@ looked_adds who a d h = record { acts = []; added = added_looked who a d h }
 
 pub adds_then : (who : ℕ) (a b d : Floor) → Adds who a b → Adds who b d → Adds who a d
 adds_then who a b d h k = record { acts = h.acts ++ k.acts; added = added_then who h.acts k.acts a b d h.added k.added }
+
+-- an acquire adds acts of the caller alone, whatever it came to
+pub acquire_adds : (who me c : ℕ) (a d : Floor) (i k : List Item) (r : Result Acquired Memory)
+    → AcquiredAnswer c (parts who a i) (parts me d k) r → Adds who a d
+acquire_adds who me c a d i k (Ok acquired.Held) h = told_adds who me a d i k _ h.takes.told
+acquire_adds who me c a d i k (Ok (acquired.Waits w)) h = told_adds who me a d i k _ h.told
+acquire_adds who me c a d i k (Ok acquired.Cancelled) h = absurd h
+acquire_adds who me c a d i k (Ok (acquired.Closed x)) h = told_adds who me a d i k _ h
+acquire_adds who me c a d i k (Ok acquired.Spent) h = told_adds who me a d i k _ h
+acquire_adds who me c a d i k (Err m) h = untouched_adds who me a d i k h
+
+-- the wait that it began, if it did, is the caller's and did not end
+pub acquired_wait : (who me c : ℕ) (a d : Floor) (i k : List Item) (r : Acquired) → me ≡ who
+    → AcquiredAnswer c (parts who a i) (parts me d k) (Ok r) → IsOwnWait c who (wait_of r) d
+acquired_wait who me c a d i k acquired.Held e h = tt
+acquired_wait who me c a d i k (acquired.Waits w) e h =
+    (ap (λ (u : WaitId). u.channel) h.is, subst (λ (t : ℕ). HoldsWait t w d) e h.waits.holds)
+acquired_wait who me c a d i k acquired.Cancelled e h = tt
+acquired_wait who me c a d i k (acquired.Closed x) e h = tt
+acquired_wait who me c a d i k acquired.Spent e h = tt
 
 pub take_up_adds : (who me : ℕ) (w : WaitId) (a d : Floor) (i k : List Item) (r : Result Acquired Memory)
     → TakenUpAnswer w (parts who a i) (parts me d k) r → Adds who a d

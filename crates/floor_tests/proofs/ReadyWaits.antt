@@ -11,7 +11,8 @@ use Rattle.channel_model.proofs.Others.{others_keep, unsettled_stays, ready_stay
 use Rattle.cell_calls.proofs.OwnCells.{ready_told}
 use Rattle.floor_tests.specs.KnownPermits.{HoldsWait}
 
-own_of : (who : ℕ) (x : Option Wait) → IsUnsettledOf who x → IsOwnWait who x
+-- a wait of one that did not end is its own
+pub own_of : (who : ℕ) (x : Option Wait) → IsUnsettledOf who x → IsOwnWait who x
 own_of who None h = absurd h
 own_of who (Some x) h = h.0
 

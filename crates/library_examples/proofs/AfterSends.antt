@@ -4,6 +4,7 @@ use Rattle.std.proofs.Common.{sym, ap, ◌∙◌, subst}
 use Rattle.co_base.specs.declared.names.WaitId.{WaitId}
 use Rattle.channel_model.specs.declared.acts.Act.{Act}
 use Rattle.channel_model.specs.Answers.{IsUnsettledOf}
+use Rattle.channel_model.specs.Channels.{kind_at, is_signal}
 use Rattle.channel_model.specs.Histories.{Legal, acts_of}
 use Rattle.channel_model.specs.Floors.{Floor, MayCall, Added, entries_by}
 use Rattle.channel_model.proofs.Histories.{acts_of-append}
@@ -90,6 +91,17 @@ received_at c w told h = waits_at (receives c) told (Waits w) h
 -- what a coroutine sees
 abbrev sees : ℕ → Floor → List Item → SeenOnChannels
 sees who floor items = record { who = who; floor = floor; items = items }
+
+-- behind a receive that waits whoever might call still may
+pub may_call_behind : (who c : ℕ) (w : WaitId) (a b : Floor) (i j : List Item)
+    → ReceivedAnswer c (sees 1 a i) (sees 1 b j) (Ok (receive.Waits w)) → MayCall who c a → MayCall who c b
+may_call_behind who c w a b i j h m = call_added who 1 c _ a b h.0.left.added m
+
+-- and the channel carries elements still
+pub kind_behind : (c : ℕ) (w : WaitId) (a b : Floor) (i j : List Item)
+    → ReceivedAnswer c (sees 1 a i) (sees 1 b j) (Ok (receive.Waits w)) → is_signal (kind_at a.shape c) ≡ false
+    → is_signal (kind_at b.shape c) ≡ false
+kind_behind c w a b i j h k = rw h.0.left.added.same.shape k
 
 -- whoever waits may still call for its wait
 pub may_call_waiting : (c v : ℕ) (w : WaitId) (a b d : Floor) (i j k l : List Item) (r : SendAnswer)
