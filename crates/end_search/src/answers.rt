@@ -243,12 +243,13 @@ fn rest_of(
         Verdict::Found => "found",
         Verdict::Cut => "not exhausted",
     };
-    let mut notes = String::new(alloc);
-    push_notes(&mut notes, script, found.sampled, verdict)?;
-    let notes = notes.as_str();
     let states = found.states;
     let turns = found.turns;
-    Ok(format!(in alloc; "{word}: {states} states, {turns} turns; {notes}one worker, any order\n")?)
+    let mut rest = String::new(alloc);
+    write!(rest, "{word}: {states} states, {turns} turns; ")?;
+    push_notes(&mut rest, script, found.sampled, verdict)?;
+    rest.push_str("one worker, any order\n")?;
+    Ok(rest)
 }
 
 /// Adds why the search was cut, if that is known, and how many of the ends are not of states that were looked at.

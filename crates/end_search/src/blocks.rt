@@ -15,6 +15,7 @@ use crate::refusals::refused_sends;
 use crate::wanted::{Wanted, does_suit, shows_kind};
 use co_base::{Gate, Memory, Tag};
 use engine_one::{ListRun, run_in_order};
+use gathered::Text;
 use job_model::End;
 use note_book::Notes;
 use run_explanation::explain_waits;
@@ -107,13 +108,15 @@ fn told_of_run(
     let waits = waits_in(alloc, shown.script, shown.source, told.as_slice())?;
     let named = named_text(alloc, shown.script, lines.ends.as_bytes())?;
     let order = order_text(alloc, order)?;
-    let mut block = head_text(alloc, number, run.done.end)?;
-    block.extend_from_slice(waits.as_slice())?;
-    block.extend_from_slice(named.as_slice())?;
-    block.extend_from_slice(lines.refused.as_bytes())?;
-    block.extend_from_slice(lines.ends.as_bytes())?;
-    block.extend_from_slice(order.as_bytes())?;
-    Ok(block)
+    let head = head_text(alloc, number, run.done.end)?;
+    let mut block = Text::new(alloc);
+    block.add(head.as_slice());
+    block.add(waits.as_slice());
+    block.add(named.as_slice());
+    block.add(lines.refused.as_bytes());
+    block.add(lines.ends.as_bytes());
+    block.add(order.as_bytes());
+    Ok(block.whole()?)
 }
 
 /// The lines of the coroutines that a report leaves waiting, or that it is too long to be explained.

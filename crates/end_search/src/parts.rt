@@ -395,18 +395,33 @@ fn part_of<G: Gate>(
     ensures { OnOk result (TrialStands (program_of task.entry.script.now) desk.new.trial) }
 {
     let mut part = Part::new(alloc, span);
-    for state in span.from..span.to {
+    add_states(alloc, task, gate, states, desk, &mut part)?;
+    Ok(part)
+}
+
+/// Adds what is found of the states of this part.
+fn add_states<G: Gate>(
+    alloc: Global,
+    task: Task,
+    gate: &G,
+    states: &States,
+    desk: &mut Desk,
+    part: &mut Part,
+) -> Result<(), Memory>
+    requires { TrialStands (program_of task.script.now) desk.old.trial }
+    ensures { OnOk result (TrialStands (program_of task.entry.script.now) desk.new.trial) }
+{
+    for state in part.span.from..part.span.to {
         let around = Around {
             task,
             states,
             state,
             ahead: states.aheads.of(state),
         };
-        add_state(alloc, &around, gate, desk, &mut part)?;
+        add_state(alloc, &around, gate, desk, part)?;
         part.end_state();
     }
-    if_whole(part.is_whole() && desk.is_whole())?;
-    Ok(part)
+    if_whole(part.is_whole() && desk.is_whole())
 }
 
 /// What is known before a state is looked at.

@@ -1,8 +1,8 @@
 -- The names of the channels of a run.
-use Rattle.std.specs.Prelude.{◌≡◌, ℕ, ◌+◌, List, [], ◌∷◌, ◌++◌, length, map, refl, string_bytes}
+use Rattle.std.specs.Prelude.{◌≡◌, ℕ, ◌+◌, ◌<◌, List, [], ◌∷◌, ◌++◌, get_or, length, map, refl, string_bytes, take}
 use Rattle.std.specs.List.{range_with_len}
-use Rattle.std.proofs.Common.{ap, arith, sym, ◌∙◌, length-append}
-use Rattle.std.proofs.lemmas.List.{length-map, map-append}
+use Rattle.std.proofs.Common.{ap, append_assoc, arith, sym, ◌∙◌, length-append}
+use Rattle.std.proofs.lemmas.List.{length-map, map-append, map_more}
 use Rattle.std.proofs.lemmas.List.FromFn.{length-map-range_with_len}
 use Rattle.run_report.proofs.Lines.{range_with_len-more}
 use Rattle.script_grammar.specs.Programs.{Declared, channel_names}
@@ -16,6 +16,15 @@ pub one_row_more : (before new : List (List ℕ)) (name : List ℕ) (n : ℕ) �
 one_row_more before new name n is more named =
     more ∙ ap (λ l. l ++ name ∷ []) is ∙ ap (λ x. map row_name (range_with_len 0 n) ++ x ∷ []) named
     ∙ sym (map-append row_name (range_with_len 0 n) (n ∷ [])) ∙ sym (ap (map row_name) (range_with_len-more n))
+
+-- the name of the next element stands behind those of the elements before it
+pub one_name_more : {A : Type 0} (name_of : A → List ℕ) (front before new : List (List ℕ)) (xs : List A) (i : ℕ) (x : A) (name : List ℕ)
+    → before ≡ front ++ map name_of (take i xs) → new ≡ before ++ name ∷ [] → name ≡ name_of x → x ≡ get_or xs i x → i < length xs
+    → new ≡ front ++ map name_of (take (i + 1) xs)
+one_name_more name_of front before new xs i x name is more named here within =
+    more ∙ (λ j. is j ++ (named ∙ ap name_of here) j ∷ [])
+    ∙ append_assoc front (map name_of (take i xs)) (name_of (get_or xs i x) ∷ [])
+    ∙ ap (λ l. front ++ l) (sym (map_more name_of xs i x within))
 
 names_declared : (xs : List Channel) → map (λ (c : Channel). string_bytes c.name) xs ≡ channel_names (map declared_of xs)
 names_declared [] = refl

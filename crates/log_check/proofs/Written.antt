@@ -1,7 +1,7 @@
--- A line that goes into the book of its coroutine.
-use Rattle.std.specs.Prelude.{◌≡◌, ◌<◌, List, [], ◌∷◌, ◌++◌, length, map, set, slice_set, get_or}
+-- A line that goes into the book of its coroutine, and books with nothing in them.
+use Rattle.std.specs.Prelude.{◌≡◌, ℕ, ◌+◌, ◌<◌, List, [], ◌∷◌, ◌++◌, length, map, set, slice_set, get_or, replicate}
 use Rattle.std.proofs.Common.{ap, sym, ◌∙◌}
-use Rattle.std.proofs.lemmas.List.{get_or-map, map-set}
+use Rattle.std.proofs.lemmas.List.{get_or-map, map-append, map-set, replicate_more}
 use Rattle.note_book.specs.declared.notes.Notes.{Notes}
 use Rattle.note_book.specs.Books.{notes_of}
 use Rattle.history_text.specs.declared.line.Line.{Line}
@@ -20,3 +20,9 @@ pub written_there : (books : List Notes) (line : Line) (new old : Notes) → lin
     → notes_of new ≡ notes_of old ++ line.item ∷ []
     → map notes_of (slice_set books line.who new) ≡ with_line (map notes_of books) line
 written_there books line new old lt here is = written books line new old lt (is ∙ ap (λ b. notes_of b ++ line.item ∷ []) here)
+
+-- one empty book more
+pub one_book_more : (before new : List Notes) (book : Notes) (n : ℕ) → map notes_of before ≡ replicate n [] → new ≡ before ++ book ∷ []
+    → notes_of book ≡ [] → map notes_of new ≡ replicate (n + 1) []
+one_book_more before new book n are more empty =
+    ap (map notes_of) more ∙ map-append notes_of before (book ∷ []) ∙ (λ i. are i ++ empty i ∷ []) ∙ replicate_more n []

@@ -348,8 +348,8 @@ impl Path {
         true
     }
 
-    /// Keeps what this coroutine did, if anything, behind so many of its lines. The answer is no, if the poll is to be taken back: it did not
-    /// write what was wanted, or the run was here before.
+    /// Keeps what this coroutine did, if anything, behind so many of its lines. The answer is no, if the poll is to be taken back: it did
+    /// not write what was wanted, or the run was here before.
     fn goes_on(
         &mut self,
         wanted: Wanted,

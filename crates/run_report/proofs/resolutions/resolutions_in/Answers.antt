@@ -1,5 +1,6 @@
 use Rattle.std.proofs.Common.{ℕ, ◌||◌, List, ◌∷◌, ◌+◌, map, ap, sym, ◌∙◌, drop, arith}
-use Rattle.std.proofs.lemmas.List.{at_drop_more}
+use Rattle.std.proofs.Math.Bool.{or-false}
+use Rattle.std.proofs.lemmas.List.{at_drop_all, at_drop_more}
 use Rattle.note_book.specs.declared.notes.Notes.{Notes}
 use Rattle.note_book.specs.Books.{notes_of}
 use Rattle.note_book.specs.Items.{channel_acts_in}
@@ -23,3 +24,18 @@ loop-book-preserved c = λ d q w.
     (ap (λ b. before || resolved_in (b ∷ drop (k + 1) books)) c.book-item.is
     ∙ ap (λ x. before || x) (sym (at_drop_more resolved_in books k book (omega arith)))
     ∙ c.loop-book.invariant d q w)
+
+pub loop-book-init : goal.loop-book-init
+loop-book-init c = λ d q w.
+    let waits = λ (e r : ℕ). (value_at c.args.facts.now e r).wait in
+    let resolved = is_resolved_elsewhere waits d q w (channel_acts_noted (map notes_of c.args.books.now)) in
+    ap (λ x. is_elsewhere d q x || resolved) (c.new-table.ensures.value w.channel w.place)
+
+pub returns : goal.returns
+returns c = λ d q w.
+    let waits = λ (e r : ℕ). (value_at c.args.facts.now e r).wait in
+    let now = is_elsewhere d q (value_at c.loop-book.table w.channel w.place) in
+    let resolved_in = λ (l : List Notes). is_resolved_elsewhere waits d q w (channel_acts_noted (map notes_of l)) in
+    sym (or-false now)
+    ∙ ap (λ x. now || x) (sym (at_drop_all resolved_in c.args.books.now c.loop-book.book-index (omega arith)))
+    ∙ c.loop-book.invariant d q w
