@@ -1,7 +1,7 @@
 //! What stands at each place of a line, from left to right.
 //!
-//! A reader answers what it read, and the words after it. Who reads on does so in a `match` on the answer: behind a `?` the proof takes twice
-//! as long.
+//! A reader answers what it read, and the words after it. Who reads on does so in a `match` on the answer: behind a `?` the proof takes
+//! twice as long.
 
 ghost use Rattle.std.specs.Prelude.{◌≡◌, ◌≤◌, ◌∷◌, ℕ, List, IfOk, map, true, string_bytes};
 ghost use Rattle.std.specs.Str.{all_ascii_digits};
